@@ -1,3 +1,9 @@
 pub mod Ranks
 pub mod Shown
 pub mod Plants
+pub mod Counts
+pub mod Cells
+pub mod Grids
+pub mod Entries
+pub mod Hanging
+pub mod Changes

@@ -1,5 +1,9 @@
 pub mod Spots
 pub mod Trees
 pub mod Plants
+pub mod Levels
 pub mod Ledgers
 pub mod Sums
+pub mod Entries
+pub mod Changes
+pub mod Worked

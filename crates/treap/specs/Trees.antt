@@ -16,6 +16,13 @@ pub data Quadrant : Type 0 where
   bl : Quadrant
   br : Quadrant
 
+-- the place of a quadrant in their order
+abbrev pub index : Quadrant → ℕ
+index tl = 0
+index tr = 1
+index bl = 2
+index br = 3
+
 -- a square of side 2 ^ level, whose first cell is (top, left)
 pub record Square : Type 0 where
   pub level : ℕ

@@ -1,0 +1,4 @@
+use Rattle.plan.proofs.place.write.Needs as need
+
+pub returns : need.returns
+returns g c = ?

@@ -1,0 +1,6 @@
+// Plans: marks on a square grid, entered, regraded, struck and looked up, in places lent by the caller.
+mod place;
+mod rank;
+mod square;
+
+pub use place::Place;
