@@ -45,6 +45,9 @@ level-below tr s pos = suc-pred (s .level) pos
 level-below bl s pos = suc-pred (s .level) pos
 level-below br s pos = suc-pred (s .level) pos
 
+pub part-falls : (q : Quadrant) (s u : Square) → 0 < s .level → u ≡ quadrant q s → u .level < s .level
+part-falls q s u pos e = omega (arith, level-below q s pos, ap (λ (x : Square). x .level) e)
+
 -- the tree of a quadrant
 pub part-at : (s : Square) (at : ℕ → Cell) (p : Cell) (q : Quadrant)
     → 0 < s .level
@@ -150,3 +153,6 @@ module _ (l fresh i : ℕ) (j : Option ℕ) (at bt ct : ℕ → Cell) (w : Spot)
       let pc = stays (at i .d) (at i .c) outside (λ n. omega arith) in
       let pd = becomes new e z in
       ap (λ (c : Cell). box i (c .mark) (tree-at l ct (c .a)) (tree-at l ct (c .b)) (tree-at l ct (c .c)) (tree-at l ct (c .d))) put ∙ cc (pa, pb, pc, pd)
+
+pub in-places : (k : Kind) (s : Square) (bound : ℕ) (at : ℕ → Cell) (root : Option ℕ) (i : ℕ) → root ≡ Some i → Stands k s bound (tree-in s at root) → i < bound
+in-places k s bound at root i is st = root-below k s bound at i (subst (λ (o : Option ℕ). Stands k s bound (tree-in s at o)) is st)

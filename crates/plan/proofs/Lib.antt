@@ -1,3 +1,5 @@
 mod Ranking
 mod Descent
 mod Cells
+mod Seeking
+mod Sinking

@@ -1,9 +1,7 @@
--- Squares and quadrants of the code as the theory has them, and what a test tells.
+-- Squares and quadrants of the code as the theory has them.
 --
 --   square-of, quadrant-of   the square, the quadrant
 --   Fits s                   the square lies within the largest plan
---   Decides b P              the answer b tells whether P holds
-use mathlib.Core.Bool.{Bool, true, false}
 use Prim.Native.Nat.{ℕ, _+_, _^_, _≤_}
 use Rattle.treap.specs.Trees as tree
 use Rattle.plan.specs.declared.square.Square.{Square}
@@ -23,7 +21,3 @@ pub record Fits (s : tree.Square) : Type 0 where
   pub level : s .level ≤ 10
   pub rows : s .top + 2 ^ s .level ≤ 1024
   pub cols : s .left + 2 ^ s .level ≤ 1024
-
-abbrev pub Decides : Bool → Type 0 → Type 0
-Decides true P = P
-Decides false P = P → ⊥

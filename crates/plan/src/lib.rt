@@ -1,6 +1,8 @@
 // Plans: marks on a square grid, entered, regraded, struck and looked up, in places lent by the caller.
 mod place;
 mod rank;
+mod seek;
+mod sink;
 mod square;
 
 pub use place::Place;

@@ -1,9 +1,10 @@
-// Which of two marks outranks the other.
+// Which of two marks outranks the other, and where a mark stands.
 ghost use mathlib.Core.Path.{_≡_};
 ghost use Rattle.boxtree.specs.Marks.{spot-of};
 ghost use Rattle.treap.specs.Spots.{Outranks};
+ghost use Rattle.treap.specs.Sums.{at-cell};
 ghost use Rattle.treap.specs.Changes.{Ranked};
-ghost use Rattle.plan.specs.Squares.{Decides};
+ghost use Rattle.std.specs.Orderings.{Decides};
 use boxtree::mark::Mark;
 use boxtree::mark::MarkClone;
 use grade::Grade;
@@ -21,6 +22,13 @@ pub(crate) fn outranks<G: Grade>(m: Mark<G>, n: Mark<G>) -> bool
     } else {
         m.row < n.row
     }
+}
+
+// Whether the mark stands in the cell.
+pub(crate) fn stands_in<G: Grade>(m: Mark<G>, row: u16, col: u16) -> bool
+    ensures { λ r. ⌜ r ≡ at-cell row col (spot-of (G·Grade .coded) m) ⌝ }
+{
+    row == m.row && col == m.col
 }
 
 // Two marks, the one that outranks the other first.

@@ -10,10 +10,12 @@ use Rattle.std.specs.Options.{isSome}
 use Rattle.std.specs.declared.option.Option.{Option}
 use Rattle.std.specs.declared.option.Option.the-variants.{Some, None}
 use Rattle.std.proofs.shelf.Ways.{tells}
+use Rattle.grade.specs.Kind.{Kind}
 use Rattle.treap.specs.Spots.{Spot}
-use Rattle.treap.specs.Trees.{Tree, none, box, Shows, Lone}
+use Rattle.treap.specs.Trees.{Quadrant, index, tl, tr, bl, br, Square, Within, quadrant, Tree, none, box, pick, Shows, Ordered, Lone}
 use Rattle.treap.specs.Sums.{one-if, mark-sum, at-cell, in-cell, Alone, either, grade-in}
 use Rattle.treap.proofs.Ranks.{spot-eq}
+use Rattle.treap.proofs.Shown.{shown-holds, lawful-quadrant, one-quadrant}
 use Rattle.treap.proofs.Counts.{mark-sum-le, same, has-self}
 
 pub mark-sum-add : (f g : Spot → ℕ) (t : Tree) → mark-sum (λ m. f m + g m) t ≡ mark-sum f t + mark-sum g t
@@ -146,3 +148,31 @@ graded-in-cell t alone row col = go (grade-in row col t) refl
     go None e = sym (ungraded-free row col t e)
     go (Some g) e =
         omega (arith, alone row col, shown-in-cell t (record { row = row; col = col; grade = g }) (graded-shown row col t g e))
+
+-- a cell outside the square of a tree has no mark of it
+outside-free : (k : Kind) (s : Square) (t : Tree) → Ordered k s t → (row col : ℕ) → (Within s row col → ⊥) → in-cell row col t ≡ 0
+outside-free k s t h row col out = go (grade-in row col t) refl
+  where
+    go : (o : Option ℕ) → grade-in row col t ≡ o → in-cell row col t ≡ 0
+    go None e = ungraded-free row col t e
+    go (Some g) e =
+        absurd (out (shown-holds k s t h (record { row = row; col = col; grade = g }) (graded-shown row col t g e) .inside))
+
+-- what stands in a cell other than the root's mark stands in the quadrant of the cell
+pub cell-in-quadrant : (k : Kind) (s : Square) (n : ℕ) (m : Spot) (a b c d : Tree)
+    → Ordered k s (box n m a b c d)
+    → (row col : ℕ)
+    → at-cell row col m ≡ false
+    → (q : Quadrant)
+    → Within (quadrant q s) row col
+    → in-cell row col (box n m a b c d) ≡ in-cell row col (pick a b c d q)
+cell-in-quadrant k s n m a b c d h row col e q w = go q (λ p ne. free p (λ v. ne (ap index (one-quadrant s p q row col v w))))
+  where
+    free : (p : Quadrant) → (Within (quadrant p s) row col → ⊥) → in-cell row col (pick a b c d p) ≡ 0
+    free p out = outside-free k (quadrant p s) (pick a b c d p) (lawful-quadrant k s n m a b c d h p) row col out
+
+    go : (q : Quadrant) → ((p : Quadrant) → (index p ≡ index q → ⊥) → in-cell row col (pick a b c d p) ≡ 0) → in-cell row col (box n m a b c d) ≡ in-cell row col (pick a b c d q)
+    go tl f = omega (arith, ap one-if e, f tr (λ z. omega arith), f bl (λ z. omega arith), f br (λ z. omega arith))
+    go tr f = omega (arith, ap one-if e, f tl (λ z. omega arith), f bl (λ z. omega arith), f br (λ z. omega arith))
+    go bl f = omega (arith, ap one-if e, f tl (λ z. omega arith), f tr (λ z. omega arith), f br (λ z. omega arith))
+    go br f = omega (arith, ap one-if e, f tl (λ z. omega arith), f tr (λ z. omega arith), f bl (λ z. omega arith))
