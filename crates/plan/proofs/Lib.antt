@@ -3,3 +3,4 @@ mod Descent
 mod Cells
 mod Seeking
 mod Sinking
+mod Choosing

@@ -79,7 +79,7 @@ module _ (k : Kind) (L : Laws k) (s : Square) (bound : ℕ) (m : Spot) (fresh : 
       },
     )
 
-    module _ (bt ct : ℕ → Cell) (j : ℕ) (sunk : Sunk k u down fresh at o bt j) where
+    module _ (bt : ℕ → Cell) (j : ℕ) (sunk : Sunk k u down fresh at o bt j) where
       pub sink-link : j < bound
       sink-link = go o (sunk .root) (subst (Below bound) (sym eo′) (link-below k s bound at i (h .stands) q))
         where
@@ -87,7 +87,7 @@ module _ (k : Kind) (L : Laws k) (s : Square) (bound : ℕ) (m : Spot) (fresh : 
           go None e w = omega (arith, h .room)
           go (Some v) e w = omega arith
 
-      module _ (put : ct i ≡ relink q p up (Some j)) (rest : (n : ℕ) → (n ≡ i → ⊥) → ct n ≡ bt n) where
+      module _ (ct : ℕ → Cell) (put : ct i ≡ relink q p up (Some j)) (rest : (n : ℕ) → (n ≡ i → ⊥) → ct n ≡ bt n) where
         not-fresh : one-if (eqb i fresh) ≡ 0
         not-fresh = none-is i fresh (λ e. omega (arith, h .unused, ap (λ (x : ℕ). held x (tree-in s at (Some i))) e, one-is i i refl))
 

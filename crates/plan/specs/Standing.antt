@@ -15,13 +15,17 @@ use Rattle.std.specs.declared.option.Option.{Option}
 use Rattle.std.specs.declared.option.Option.the-variants.{None, Some}
 use Rattle.grade.specs.Kind.{Kind}
 use Rattle.treap.specs.Spots.{Spot}
-use Rattle.treap.specs.Trees.{Square, Tree, Shows, Holds, Ordered}
+use Rattle.treap.specs.Trees.{Quadrant, Square, Tree, Shows, Holds, Ordered}
 use Rattle.treap.specs.Sums.{in-cell, held, Alone}
 use Rattle.treap.specs.Changes.{Gains, Loses, Renumbers}
-use Rattle.plan.specs.Places.{Cell, tree-at}
+use Rattle.plan.specs.Places.{Cell, Below, link, tree-at}
 
 abbrev pub tree-in : Square → (ℕ → Cell) → Option ℕ → Tree
 tree-in s at o = tree-at (suc (s .level)) at o
+
+-- each box right below the place is in a place below the bound
+abbrev pub Linked : ℕ → Cell → Type 0
+Linked bound p = (q : Quadrant) → Below bound (link q p)
 
 pub record Stands (k : Kind) (s : Square) (bound : ℕ) (t : Tree) : Type 0 where
   pub ordered : Ordered k s t

@@ -1,4 +1,5 @@
 // Plans: marks on a square grid, entered, regraded, struck and looked up, in places lent by the caller.
+mod lift;
 mod place;
 mod rank;
 mod seek;

@@ -55,7 +55,7 @@ relinked-requires g t c κs =
     sink-link (g .G·Grade .kind) (g .G·Grade·met .laws) (square-of (c .args .square)) _ _ _ (cells (g .G·Grade .coded) (c .args .places .now)) _ _ (c .in-Some .is)
     (cell-of (g .G·Grade .coded) (c .read-here .result)) (c .read-here .ensures) (c .pre .sinks) _ _ (c .rank-pair-pair .ensures)
     (quadrant-of (c .quadrant-at-q .result)) (c .quadrant-at-q .ensures) (square-of (c .part .result)) (c .part .ensures) (c .link .result) (c .link .ensures)
-    (cells (g .G·Grade .coded) (c .sink-below .last .places)) (cells (g .G·Grade .coded) (c .sink-below .last .places)) (c .sink-below .result) (c .sink-below .ensures) in
+    (cells (g .G·Grade .coded) (c .sink-below .last .places)) (c .sink-below .result) (c .sink-below .ensures) in
     omega (arith, link, c .pre .few)
 
 pub write-requires-in-Some : need.write-requires-in-Some
@@ -73,5 +73,5 @@ returns-in-Some g t c =
     sink-does (g .G·Grade .kind) (g .G·Grade·met .laws) (square-of (c .args .square)) _ _ _ (cells (g .G·Grade .coded) (c .args .places .now)) _ _ (c .in-Some .is)
     (cell-of (g .G·Grade .coded) (c .read-here .result)) (c .read-here .ensures) (c .pre .sinks) _ _ (c .rank-pair-pair .ensures)
     (quadrant-of (c .quadrant-at-q .result)) (c .quadrant-at-q .ensures) (square-of (c .part .result)) (c .part .ensures) (c .link .result) (c .link .ensures)
-    (cells (g .G·Grade .coded) (c .sink-below .last .places)) (cells (g .G·Grade .coded) (c .write-in-Some .last .places)) _ (c .sink-below .ensures)
+    (cells (g .G·Grade .coded) (c .sink-below .last .places)) (c .sink-below .result) (c .sink-below .ensures) (cells (g .G·Grade .coded) (c .write-in-Some .last .places))
     (c .write-in-Some .ensures .there ∙ c .relinked .ensures) (c .write-in-Some .ensures .elsewhere)
