@@ -89,16 +89,6 @@ module _ (k : Kind) (s : Square) (bound : ℕ) (at : ℕ → Cell) (i : ℕ) (st
           under = λ n h. omega (arith, st .under n h, child-held n);
         }
 
-    pub stands-below : 0 < s .level → Stands k (quadrant q s) bound (tree-in (quadrant q s) at (link q (at i)))
-    stands-below pos = subst (Stands k (quadrant q s) bound) (part-at s at (at i) q pos) child-stands
-
-    pub held-below : 0 < s .level → (n : ℕ) → one-if (eqb n i) + held n (tree-in (quadrant q s) at (link q (at i))) ≤ held n (tree-in s at (Some i))
-    held-below pos n =
-        subst (λ (u : Tree). one-if (eqb n i) + held n u ≤ held n (tree-in s at (Some i))) (part-at s at (at i) q pos) (child-held n)
-
-    pub not-root-below : 0 < s .level → held i (tree-in (quadrant q s) at (link q (at i))) ≡ 0
-    not-root-below pos = omega (arith, held-below pos i, st .single i, one-is i i refl)
-
     pub link-below : Below bound (link q (at i))
     link-below = go (link q (at i)) (s .level) (λ n h. subst (λ (u : Tree). held n u ≡ 0) (pick-at (s .level) at (at i) q) (child-stands .under n h))
       where
@@ -106,6 +96,29 @@ module _ (k : Kind) (s : Square) (bound : ℕ) (at : ℕ → Cell) (i : ℕ) (st
         go None l u = tt
         go (Some j) zero u = let no′ : bound ≤ j → ⊥ = λ h. omega (arith, u j h, one-is j j refl) in omega arith
         go (Some j) (suc l) u = let no′ : bound ≤ j → ⊥ = λ h. omega (arith, u j h, one-is j j refl) in omega arith
+
+    -- the square u of the quadrant, and the place o of its root
+    module _ (pos : 0 < s .level) (u : Square) (eu : u ≡ quadrant q s) (o : Option ℕ) (eo : o ≡ link q (at i)) where
+      pub down-fits : Fits s → Fits u
+      down-fits fits = rw eu (fits-below s q pos fits)
+
+      pub down-is : child ≡ tree-in u at o
+      down-is = rw (eu, eo) (part-at s at (at i) q pos)
+
+      pub down-link : tree-at (s .level) at (link q (at i)) ≡ tree-in u at o
+      down-link = sym (pick-at (s .level) at (at i) q) ∙ down-is
+
+      pub down-stands : Stands k u bound (tree-in u at o)
+      down-stands = rw eu (subst (Stands k (quadrant q s) bound) (rw eu at down-is) child-stands)
+
+      pub down-held : (n : ℕ) → one-if (eqb n i) + held n (tree-in u at o) ≤ held n (tree-in s at (Some i))
+      down-held n = subst (λ (t : Tree). one-if (eqb n i) + held n t ≤ held n (tree-in s at (Some i))) down-is (child-held n)
+
+      pub down-depth : (bt : ℕ → Cell) (r : Option ℕ) → tree-at (s .level) bt r ≡ tree-in u bt r
+      down-depth bt r = ap (λ (l : ℕ). tree-at l bt r) (sym (level-below q s pos) ∙ ap (λ (x : Square). suc (x .level)) (sym eu))
+
+      pub down-below : Below bound o
+      down-below = subst (Below bound) (sym eo) link-below
 
 -- one quadrant's tree becomes `new`, in the places of its boxes and the place `fresh`, and the root's place is written anew
 module _ (l fresh i : ℕ) (j : Option ℕ) (at bt ct : ℕ → Cell) (w : Spot) (single : (n : ℕ) → held n (tree-at (suc l) at (Some i)) ≤ 1)
@@ -154,5 +167,13 @@ module _ (l fresh i : ℕ) (j : Option ℕ) (at bt ct : ℕ → Cell) (w : Spot)
       let pd = becomes new e z in
       ap (λ (c : Cell). box i (c .mark) (tree-at l ct (c .a)) (tree-at l ct (c .b)) (tree-at l ct (c .c)) (tree-at l ct (c .d))) put ∙ cc (pa, pb, pc, pd)
 
+pub at-place : (k : Kind) (s : Square) (bound : ℕ) (at : ℕ → Cell) (root : Option ℕ) (i : ℕ) → root ≡ Some i → Stands k s bound (tree-in s at root) → Stands k s bound (tree-in s at (Some i))
+at-place k s bound at root i is st = subst (λ (o : Option ℕ). Stands k s bound (tree-in s at o)) is st
+
 pub in-places : (k : Kind) (s : Square) (bound : ℕ) (at : ℕ → Cell) (root : Option ℕ) (i : ℕ) → root ≡ Some i → Stands k s bound (tree-in s at root) → i < bound
-in-places k s bound at root i is st = root-below k s bound at i (subst (λ (o : Option ℕ). Stands k s bound (tree-in s at o)) is st)
+in-places k s bound at root i is st = root-below k s bound at i (at-place k s bound at root i is st)
+
+-- a place below the number of places fits a link
+pub below-limit : (bound : ℕ) (o : Option ℕ) → bound ≤ 65535 → Below bound o → Below 65535 o
+below-limit bound None few h = tt
+below-limit bound (Some i) few h = omega arith

@@ -4,3 +4,4 @@ mod Cells
 mod Seeking
 mod Sinking
 mod Choosing
+mod Lifting

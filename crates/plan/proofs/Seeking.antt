@@ -18,7 +18,7 @@ use Rattle.treap.proofs.Hanging.{one-cell}
 use Rattle.plan.specs.Squares.{Fits}
 use Rattle.plan.specs.Places.{Cell, link, tree-at}
 use Rattle.plan.specs.Standing.{tree-in, Stands, Found}
-use Rattle.plan.proofs.Descent.{part-at, fits-below, stands-below}
+use Rattle.plan.proofs.Descent.{down-fits, down-is, down-stands}
 
 -- going down from the root in the place i, which is p
 module _ (k : Kind) (s : Square) (bound row col : ℕ) (inside : Within s row col) (at : ℕ → Cell) (root : Option ℕ) (i : ℕ) (is : root ≡ Some i) (p : Cell) (ep : at i ≡ p)
@@ -53,11 +53,10 @@ module _ (k : Kind) (s : Square) (bound row col : ℕ) (inside : Within s row co
       eo′ = eo ∙ ap (link q) (sym ep)
 
       pub seek-asks : Fits s → Fits u × (Within u row col × Stands k u bound (tree-in u at o))
-      seek-asks fits =
-          rw (eu, eo′) (fits-below s q seek-deep fits, (within, stands-below k s bound at i st q seek-deep))
+      seek-asks fits = (down-fits k s bound at i st q seek-deep u eu o eo′ fits, (rw eu within, down-stands k s bound at i st q seek-deep u eu o eo′))
 
       same : pick (tree-at (s .level) at (at i .a)) (tree-at (s .level) at (at i .b)) (tree-at (s .level) at (at i .c)) (tree-at (s .level) at (at i .d)) q ≡ tree-in u at o
-      same = rw (eu, eo′) (part-at s at (at i) q seek-deep)
+      same = down-is k s bound at i st q seek-deep u eu o eo′
 
       go-down : (r : Option Spot) → Found row col (tree-in u at o) r → Found row col (tree-in s at (Some i)) r
       go-down None e =

@@ -16,7 +16,7 @@ use Rattle.treap.proofs.Changes.{room-below, down-inside, free-below, sink-belo
 use Rattle.plan.specs.Squares.{Fits}
 use Rattle.plan.specs.Places.{Cell, Below, leaf-of, link, relink, tree-at}
 use Rattle.plan.specs.Standing.{tree-in, Stands, Sinks, Sunk, place-or}
-use Rattle.plan.proofs.Descent.{level-below, pick-at, part-at, fits-below, stands-below, held-below, link-below, graft}
+use Rattle.plan.proofs.Descent.{down-fits, down-is, down-link, down-stands, down-held, down-depth, down-below, graft}
 
 -- into an empty tree
 pub sunk-first : (k : Kind) (s : Square) (bound : ℕ) (m : Spot) (fresh : ℕ) (at bt : ℕ → Cell) (root : Option ℕ)
@@ -59,19 +59,16 @@ module _ (k : Kind) (L : Laws k) (s : Square) (bound : ℕ) (m : Spot) (fresh : 
     eo′ = eo ∙ ap (link q) (sym ep)
 
     pick-is : pick (tree-at (s .level) at (at i .a)) (tree-at (s .level) at (at i .b)) (tree-at (s .level) at (at i .c)) (tree-at (s .level) at (at i .d)) q ≡ tree-in u at o
-    pick-is = rw (eu, eo′) (part-at s at (at i) q sink-deep)
-
-    link-is : tree-at (s .level) at (link q (at i)) ≡ tree-in u at o
-    link-is = sym (pick-at (s .level) at (at i) q) ∙ pick-is
+    pick-is = down-is k s bound at i (h .stands) q sink-deep u eu o eo′
 
     held-part : (n : ℕ) → one-if (eqb n i) + held n (tree-in u at o) ≤ held n (tree-in s at (Some i))
-    held-part n = rw (eu, eo′) (held-below k s bound at i (h .stands) q sink-deep n)
+    held-part n = down-held k s bound at i (h .stands) q sink-deep u eu o eo′ n
 
     pub sink-asks : Fits s → Fits u × Sinks k u bound down fresh (tree-in u at o)
     sink-asks fits = (
-      rw eu (fits-below s q sink-deep fits),
+      down-fits k s bound at i (h .stands) q sink-deep u eu o eo′ fits,
       record {
-        stands = rw (eu, eo′) (stands-below k s bound at i (h .stands) q sink-deep);
+        stands = down-stands k s bound at i (h .stands) q sink-deep u eu o eo′;
         holds = record { fair = down-holds .fair; inside = rw eu within };
         free = ap (in-cell (down .row) (down .col)) (sym pick-is) ∙ free-below k L s i (at i .mark) _ _ _ _ (h .stands .ordered) m (h .holds) (h .stands .alone) (h .free) up down ranked′ q;
         unused = omega (arith, h .unused, held-part fresh);
@@ -81,7 +78,7 @@ module _ (k : Kind) (L : Laws k) (s : Square) (bound : ℕ) (m : Spot) (fresh : 
 
     module _ (bt : ℕ → Cell) (j : ℕ) (sunk : Sunk k u down fresh at o bt j) where
       pub sink-link : j < bound
-      sink-link = go o (sunk .root) (subst (Below bound) (sym eo′) (link-below k s bound at i (h .stands) q))
+      sink-link = go o (sunk .root) (down-below k s bound at i (h .stands) q sink-deep u eu o eo′)
         where
           go : (x : Option ℕ) → j ≡ place-or fresh x → Below bound x → j < bound
           go None e w = omega (arith, h .room)
@@ -94,13 +91,11 @@ module _ (k : Kind) (L : Laws k) (s : Square) (bound : ℕ) (m : Spot) (fresh : 
         not-i : held i (tree-in u bt (Some j)) ≡ 0
         not-i = omega (arith, sunk .gains .more .numbers (λ x. one-if (eqb i x)), not-fresh, held-part i, h .stands .single i, one-is i i refl)
 
-        depth : tree-at (s .level) bt (Some j) ≡ tree-in u bt (Some j)
-        depth = ap (λ (l : ℕ). tree-at l bt (Some j)) (sym (level-below q s sink-deep) ∙ ap (λ (x : Square). suc (x .level)) (sym eu))
-
         tree : tree-in s ct (Some i) ≡ hung i up (tree-at (s .level) at (at i .a)) (tree-at (s .level) at (at i .b)) (tree-at (s .level) at (at i .c)) (tree-at (s .level) at (at i .d)) q (tree-in u bt (Some j))
         tree =
-            graft (s .level) fresh i (Some j) at bt ct up (h .stands .single) (h .unused) rest q (tree-in u bt (Some j)) depth not-i
-            (λ n z. sunk .outside n (ap (held n) (sym link-is) ∙ z)) (put ∙ ap (λ (c : Cell). relink q c up (Some j)) (sym ep))
+            graft (s .level) fresh i (Some j) at bt ct up (h .stands .single) (h .unused) rest q (tree-in u bt (Some j))
+            (down-depth k s bound at i (h .stands) q sink-deep u eu o eo′ bt (Some j)) not-i
+            (λ n z. sunk .outside n (ap (held n) (sym (down-link k s bound at i (h .stands) q sink-deep u eu o eo′)) ∙ z)) (put ∙ ap (λ (c : Cell). relink q c up (Some j)) (sym ep))
 
         gains : Gains k (quadrant q s) down fresh (pick (tree-at (s .level) at (at i .a)) (tree-at (s .level) at (at i .b)) (tree-at (s .level) at (at i .c)) (tree-at (s .level) at (at i .d)) q) (tree-in u bt (Some j))
         gains = turned (tree-in u bt (Some j)) (sunk .gains)

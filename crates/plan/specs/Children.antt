@@ -22,9 +22,12 @@ pub record Choice : Type 0 where
   pub place : ℕ
   pub mark : Spot
 
+abbrev pub choice-of : {G : Type 0} → (G → ℕ) → Child G → Choice
+choice-of code c = record { quadrant = quadrant-of (c .quadrant); place = c .place; mark = spot-of code (c .mark) }
+
 abbrev pub children-of : {G : Type 0} → (G → ℕ) → Option (Child G) → Option Choice
 children-of code None = None
-children-of code (Some c) = Some (record { quadrant = quadrant-of (c .quadrant); place = c .place; mark = spot-of code (c .mark) })
+children-of code (Some c) = Some (choice-of code c)
 
 -- the choice is the box in one of the quadrants
 pub record Chosen (at : ℕ → Cell) (p : Cell) (c : Choice) : Type 0 where

@@ -67,3 +67,53 @@ fn best_child<G: Grade>(places: &[Place<G>], here: Place<G>) -> Option<Child<G>>
     let bottom_right = child_in(places, here, Quadrant::BottomRight);
     better(better(top_left, top_right), better(bottom_left, bottom_right))
 }
+
+// What is left of a tree once a mark is taken out of it: the place of its root, and the place that is now free.
+#[derive(Clone, Copy)]
+pub(crate) struct Freed {
+    pub(crate) root: Option<u16>,
+    pub(crate) place: u16,
+}
+
+// Takes the root's mark out of the tree whose root is in the place `i`. The best mark right below moves up into its box, and
+// so on down to a box with none below it, whose place is free.
+pub(crate) fn pull<G: Grade>(places: &mut [Place<G>], i: u16, square: Square) -> Freed
+    requires few { ⌜ length (now places) ≤ 65535 ⌝ }
+    requires fits { ⌜ Fits (square-of square) ⌝ }
+    requires stands { ⌜ Stands (G·Grade .kind) (square-of square) (length (now places)) (tree-in (square-of square) (cells (G·Grade .coded) (now places)) (Some i)) ⌝ }
+    ensures { λ r. ⌜ Lifted (G·Grade .kind) (square-of square) (cells (G·Grade .coded) (now (places .entry)) i .mark) (cells (G·Grade .coded) (now (places .entry))) (Some i) (cells (G·Grade .coded) (now (places .exit))) (r .root) (r .place) ⌝ }
+{
+    let here = read(places, i);
+    match best_child(places, here) {
+        None => Freed { root: None, place: i },
+        Some(best) => {
+            let freed = pull(places, best.place, square.part(best.quadrant));
+            write(places, i, here.relinked(best.mark, best.quadrant, freed.root));
+            Freed { root: Some(i), place: freed.place }
+        }
+    }
+}
+
+// Takes a mark that the tree shows out of it.
+pub(crate) fn lift<G: Grade>(places: &mut [Place<G>], root: Option<u16>, square: Square, mark: Mark<G>) -> Freed
+    requires few { ⌜ length (now places) ≤ 65535 ⌝ }
+    requires fits { ⌜ Fits (square-of square) ⌝ }
+    requires stands { ⌜ Stands (G·Grade .kind) (square-of square) (length (now places)) (tree-in (square-of square) (cells (G·Grade .coded) (now places)) root) ⌝ }
+    requires shown { ⌜ Shows (tree-in (square-of square) (cells (G·Grade .coded) (now places)) root) (spot-of (G·Grade .coded) mark) ⌝ }
+    ensures { λ r. ⌜ Lifted (G·Grade .kind) (square-of square) (spot-of (G·Grade .coded) mark) (cells (G·Grade .coded) (now (places .entry))) root (cells (G·Grade .coded) (now (places .exit))) (r .root) (r .place) ⌝ }
+{
+    match root {
+        None => Freed { root: None, place: 0 },
+        Some(i) => {
+            let here = read(places, i);
+            if stands_in(here.mark, mark.row, mark.col) {
+                pull(places, i, square)
+            } else {
+                let q = square.quadrant_at(mark.row, mark.col);
+                let freed = lift(places, here.link(q), square.part(q), mark);
+                write(places, i, here.relinked(here.mark, q, freed.root));
+                Freed { root: Some(i), place: freed.place }
+            }
+        }
+    }
+}
