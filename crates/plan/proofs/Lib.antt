@@ -5,3 +5,4 @@ mod Seeking
 mod Sinking
 mod Choosing
 mod Lifting
+mod Moving

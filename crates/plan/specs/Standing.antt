@@ -6,7 +6,7 @@
 --                          place is below the bound
 --   Found row col t o      o is the mark of the tree in the cell, or none where it has none
 --   Sinks, Sunk            a mark is asked to go into a tree; it has gone, into the place fresh
---   Freed, Lifted          a mark is taken out of a tree, and a place is free
+--   Lifted                 a mark is taken out of a tree, and a place is free
 --   Moves, Moved           the box of one place is asked to move to another; it has moved
 use mathlib.Core.Path.{_≡_}
 use mathlib.Core.Logic.{_⊎_}
@@ -69,4 +69,4 @@ pub record Moves (k : Kind) (s : Square) (bound : ℕ) (at : ℕ → Cell) (m : 
 pub record Moved (k : Kind) (s : Square) (from to : ℕ) (at : ℕ → Cell) (o : Option ℕ) (bt : ℕ → Cell) (r : Option ℕ) : Type 0 where
   pub renumbers : Renumbers k s from to (tree-in s at o) (tree-in s bt r)
   pub outside : (n : ℕ) → held n (tree-in s at o) ≡ 0 → (n ≡ to → ⊥) → bt n ≡ at n
-  pub root : (o ≡ Some from → ⊥) → r ≡ o
+  pub root : ((o ≡ Some from) × (r ≡ Some to)) ⊎ ((o ≡ Some from → ⊥) × (r ≡ o))

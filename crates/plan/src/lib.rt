@@ -2,6 +2,7 @@
 mod lift;
 mod place;
 mod rank;
+mod relocate;
 mod seek;
 mod sink;
 mod square;
