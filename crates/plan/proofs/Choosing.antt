@@ -9,6 +9,7 @@ use Rattle.std.specs.declared.option.Option.the-variants.{None, Some}
 use Rattle.grade.specs.Kind.{Kind, Laws}
 use Rattle.treap.specs.Spots.{Spot, Outranks}
 use Rattle.treap.specs.Trees.{Quadrant, tl, tr, bl, br, In}
+use Rattle.treap.proofs.Lists.{in-append}
 use Rattle.treap.proofs.Ranks.{irrefl, trans, tri}
 use Rattle.plan.specs.Places.{Cell, link}
 use Rattle.plan.specs.Children.{Choice, Chosen, Child-at, Better, Stays-above, Best}
@@ -18,15 +19,6 @@ some-is x y e = cc
 
 not-none : {A : Type 0} (x : A) → Some x ≡ None → ⊥
 not-none x e = let z : _≡_ {A = ℕ} 0 1 = cc in omega arith
-
-in-either : {A : Type 0} (l r : List A) (x : A) → In (l ++ r) x → In l x ⊎ In r x
-in-either [] r x h = inr h
-in-either (y ∷ l) r x (inl e) = inl (inl e)
-in-either {A} (y ∷ l) r x (inr h) = go (in-either l r x h)
-  where
-    go : In l x ⊎ In r x → In (y ∷ l) x ⊎ In r x
-    go (inl p) = inl (inr p)
-    go (inr p) = inr p
 
 module _ (k : Kind) (L : Laws k) (at : ℕ → Cell) (p : Cell) where
   -- the best of the boxes in some quadrants
@@ -47,17 +39,17 @@ module _ (k : Kind) (L : Laws k) (at : ℕ → Cell) (p : Cell) where
   leads-both qs rs None b r ha hb e = subst (Leads (qs ++ rs)) (sym e) (go b hb)
     where
       go : (b : Option Choice) → Leads rs b → Leads (qs ++ rs) b
-      go None h = λ q i. elim (in-either qs rs q i) [ inl v ↦ ha q v | inr v ↦ h q v ]
-      go (Some y) h = (h .0, λ q i. elim (in-either qs rs q i) [ inl v ↦ (λ j l. absurd (not-none j (sym l ∙ ha q v))) | inr v ↦ h .1 q v ])
+      go None h = λ q i. elim (in-append qs rs q i) [ inl v ↦ ha q v | inr v ↦ h q v ]
+      go (Some y) h = (h .0, λ q i. elim (in-append qs rs q i) [ inl v ↦ (λ j l. absurd (not-none j (sym l ∙ ha q v))) | inr v ↦ h .1 q v ])
   leads-both qs rs (Some x) None r ha hb e =
       subst (Leads (qs ++ rs)) (sym e)
-      (ha .0, λ q i. elim (in-either qs rs q i) [ inl v ↦ ha .1 q v | inr v ↦ (λ j l. absurd (not-none j (sym l ∙ hb q v))) ])
+      (ha .0, λ q i. elim (in-append qs rs q i) [ inl v ↦ ha .1 q v | inr v ↦ (λ j l. absurd (not-none j (sym l ∙ hb q v))) ])
   leads-both qs rs (Some x) (Some y) r ha hb (inl e) =
       subst (Leads (qs ++ rs)) (sym (e .0))
-      (hb .0, λ q i. elim (in-either qs rs q i) [ inl v ↦ (λ j l o. ha .1 q v j l (trans k L (at j .mark) (y .mark) (x .mark) o (e .1))) | inr v ↦ hb .1 q v ])
+      (hb .0, λ q i. elim (in-append qs rs q i) [ inl v ↦ (λ j l o. ha .1 q v j l (trans k L (at j .mark) (y .mark) (x .mark) o (e .1))) | inr v ↦ hb .1 q v ])
   leads-both qs rs (Some x) (Some y) r ha hb (inr e) =
       subst (Leads (qs ++ rs)) (sym (e .0))
-      (ha .0, λ q i. elim (in-either qs rs q i) [ inl v ↦ ha .1 q v | inr v ↦ (λ j l o. over (at j .mark) o (hb .1 q v j l) (tri k L (at j .mark) (y .mark))) ])
+      (ha .0, λ q i. elim (in-append qs rs q i) [ inl v ↦ ha .1 q v | inr v ↦ (λ j l o. over (at j .mark) o (hb .1 q v j l) (tri k L (at j .mark) (y .mark))) ])
     where
       over : (m : Spot) → Outranks k m (x .mark) → (Outranks k m (y .mark) → ⊥) → Outranks k m (y .mark) ⊎ (m ≡ y .mark) ⊎ Outranks k (y .mark) m → ⊥
       over m o not-y (inl v) = not-y v

@@ -6,3 +6,7 @@ mod Sinking
 mod Choosing
 mod Lifting
 mod Moving
+mod Shapes
+mod Entering
+mod Striking
+mod Regrading

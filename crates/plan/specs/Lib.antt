@@ -2,3 +2,5 @@ pub mod Squares
 pub mod Places
 pub mod Standing
 pub mod Children
+pub mod Refusals
+pub mod Plans

@@ -1,4 +1,4 @@
--- The mark that a tree without two in a cell has in a cell, and its grade. Assumes nothing.
+-- The mark that a tree without two in a cell has in a cell, and its grade.
 use mathlib.Core.Path.{_≡_, refl, sym, ap}
 use mathlib.Core.Bool.{Bool, true, false, cond, _&&_}
 use mathlib.Core.Logic.{_⊎_, inl, inr}
@@ -12,11 +12,11 @@ use Rattle.std.specs.declared.option.Option.the-variants.{Some, None}
 use Rattle.std.proofs.shelf.Ways.{tells}
 use Rattle.grade.specs.Kind.{Kind}
 use Rattle.treap.specs.Spots.{Spot}
-use Rattle.treap.specs.Trees.{Quadrant, index, tl, tr, bl, br, Square, Within, quadrant, Tree, none, box, pick, Shows, Ordered, Lone}
+use Rattle.treap.specs.Trees.{Quadrant, index, tl, tr, bl, br, Square, Within, quadrant, Tree, none, box, pick, Shows, Ordered, Lone, count}
 use Rattle.treap.specs.Sums.{one-if, mark-sum, at-cell, in-cell, Alone, either, grade-in}
 use Rattle.treap.proofs.Ranks.{spot-eq}
 use Rattle.treap.proofs.Shown.{shown-holds, lawful-quadrant, one-quadrant}
-use Rattle.treap.proofs.Counts.{mark-sum-le, same, has-self}
+use Rattle.treap.proofs.Counts.{at-cell-is, mark-sum-le, same, has, has-self, shows-has, has-shows}
 
 pub mark-sum-add : (f g : Spot → ℕ) (t : Tree) → mark-sum (λ m. f m + g m) t ≡ mark-sum f t + mark-sum g t
 mark-sum-add f g none = refl
@@ -176,3 +176,49 @@ cell-in-quadrant k s n m a b c d h row col e q w = go q (λ p ne. free p (λ v. 
     go tr f = omega (arith, ap one-if e, f tl (λ z. omega arith), f bl (λ z. omega arith), f br (λ z. omega arith))
     go bl f = omega (arith, ap one-if e, f tl (λ z. omega arith), f tr (λ z. omega arith), f br (λ z. omega arith))
     go br f = omega (arith, ap one-if e, f tl (λ z. omega arith), f tr (λ z. omega arith), f bl (λ z. omega arith))
+
+pub free-ungraded : (row col : ℕ) (t : Tree) → in-cell row col t ≡ 0 → grade-in row col t ≡ None
+free-ungraded row col t z = go (grade-in row col t) refl
+  where
+    go : (o : Option ℕ) → grade-in row col t ≡ o → o ≡ None
+    go None e = refl
+    go (Some g) e = absurd (omega (arith, shown-in-cell t (record { row = row; col = col; grade = g }) (graded-shown row col t g e)))
+
+-- the grade in a cell once a tree has one mark more
+pub gained : (m : Spot) (t u : Tree)
+    → ((f : Spot → ℕ) → mark-sum f u ≡ f m + mark-sum f t)
+    → Alone u
+    → (row col : ℕ)
+    → grade-in row col u ≡ cond (at-cell row col m) (Some (m .grade)) (grade-in row col t)
+gained m t u more alone row col = go (at-cell row col m) refl
+  where
+    shows : (x : Spot) → 1 ≤ has x t + one-if (same x m) → Shows u x
+    shows x h = has-shows x u (omega (arith, more (λ y. one-if (same x y))))
+
+    other : (o : Option ℕ) → grade-in row col t ≡ o → at-cell row col m ≡ false → grade-in row col u ≡ o
+    other None e z = free-ungraded row col u (omega (arith, more (λ y. one-if (at-cell row col y)), ungraded-free row col t e, ap one-if z))
+    other (Some g) e z =
+        let x : Spot = record { row = row; col = col; grade = g } in
+        shown-graded u alone x (shows x (omega (arith, shows-has x t (graded-shown row col t g e))))
+
+    go : (v : Bool) → at-cell row col m ≡ v → grade-in row col u ≡ cond v (Some (m .grade)) (grade-in row col t)
+    go true e =
+        let w = at-cell-is row col m e in
+        rw (w .0, w .1) (shown-graded u alone m (shows m (omega (arith, has-self m m refl))))
+    go false e = other (grade-in row col t) refl e
+
+-- and once it has one mark less
+pub lost : (m : Spot) (t u : Tree)
+    → ((f : Spot → ℕ) → mark-sum f t ≡ f m + mark-sum f u)
+    → Alone t
+    → (row col : ℕ)
+    → grade-in row col u ≡ cond (at-cell row col m) None (grade-in row col t)
+lost m t u less alone row col = go (at-cell row col m) refl (gained m u t less alone row col)
+  where
+    go : (v : Bool) → at-cell row col m ≡ v → grade-in row col t ≡ cond v (Some (m .grade)) (grade-in row col u) → grade-in row col u ≡ cond v None (grade-in row col t)
+    go true e s = free-ungraded row col u (omega (arith, less (λ y. one-if (at-cell row col y)), alone row col, ap one-if e))
+    go false e s = sym s
+
+pub count-sum : (t : Tree) → count t ≡ mark-sum (λ _. 1) t
+count-sum none = refl
+count-sum (box i m a b c d) = omega (arith, count-sum a, count-sum b, count-sum c, count-sum d)

@@ -21,7 +21,7 @@ pub one-if-le : (b : Bool) → one-if b ≤ 1
 one-if-le true = omega arith
 one-if-le false = omega arith
 
-both-true : (a b : Bool) → a && b ≡ true → (a ≡ true) × (b ≡ true)
+pub both-true : (a b : Bool) → a && b ≡ true → (a ≡ true) × (b ≡ true)
 both-true true b e = (refl, e)
 both-true false b e = absurd (omega (arith, ap one-if e))
 

@@ -1,4 +1,4 @@
--- A lawful tree and its ledger tell each other. Assumes nothing.
+-- A lawful tree and its ledger tell each other.
 use mathlib.Core.Path.{_≡_, refl, sym, _∙_, ap, subst}
 use mathlib.Core.List.{List, [], _∷_, _++_}
 use mathlib.Core.Logic.{_⊎_, inl, inr}
@@ -14,25 +14,12 @@ use Rattle.treap.specs.Ledgers.{entry, row-entries, rows-entries, entries}
 use Rattle.treap.specs.Sums.{Alone, grade-in, ledger-of}
 use Rattle.treap.specs.Plants.{best, share, plant-at, plant, Planted}
 use Rattle.treap.specs.Entries.{plan-square, Ledger-tree, Same-marks-same-tree}
+use Rattle.treap.proofs.Lists.{in-append, in-first, in-last}
 use Rattle.treap.proofs.Ranks.{spot-eq}
 use Rattle.treap.proofs.Shown.{shown-holds, one-tree}
 use Rattle.treap.proofs.Plants.{some-tree}
 use Rattle.treap.proofs.Cells.{alone-lone, graded-shown, shown-graded}
 use Rattle.treap.proofs.Grids.{length-entries}
-
-in-append : {A : Type 0} (l r : List A) (x : A) → In (l ++ r) x → In l x ⊎ In r x
-in-append [] r x h = inr h
-in-append (y ∷ l) r x (inl e) = inl (inl e)
-in-append (y ∷ l) r x (inr h) = elim (in-append l r x h) [ inl g ↦ inl (inr g) | inr g ↦ inr g ]
-
-in-first : {A : Type 0} (l r : List A) (x : A) → In l x → In (l ++ r) x
-in-first [] r x h = absurd h
-in-first (y ∷ l) r x (inl e) = inl e
-in-first (y ∷ l) r x (inr h) = inr (in-first l r x h)
-
-in-last : {A : Type 0} (l r : List A) (x : A) → In r x → In (l ++ r) x
-in-last [] r x h = h
-in-last (y ∷ l) r x h = inr (in-last l r x h)
 
 -- the mark x is the grade o of the cell
 in-entry : (row col : ℕ) (o : Option ℕ) (x : Spot)

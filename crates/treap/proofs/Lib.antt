@@ -1,3 +1,4 @@
+pub mod Lists
 pub mod Ranks
 pub mod Shown
 pub mod Plants
@@ -5,5 +6,6 @@ pub mod Counts
 pub mod Cells
 pub mod Grids
 pub mod Entries
+pub mod Numbers
 pub mod Hanging
 pub mod Changes
