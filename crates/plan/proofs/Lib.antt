@@ -10,3 +10,4 @@ mod Shapes
 mod Entering
 mod Striking
 mod Regrading
+mod Calls

@@ -1,6 +1,7 @@
 -- Why a call on a plan is turned down, by number, and the answers of the code as the ledger has them.
 --
 --   refusal-number e     the number of the refusal
+--   numbered r           none, or the number of the refusal
 --   done-or r            done, or the number of the refusal
 --   graded-or code r     the grade, or the number of the refusal
 --   looked-up code r     the grade or vacant, or the number of the refusal
@@ -20,6 +21,10 @@ refusal-number Off = 4
 refusal-number Taken = 5
 refusal-number Vacant = 6
 refusal-number Full = 7
+
+abbrev pub numbered : Result (Unit {0}) PlanRefusal → Option ℕ
+numbered (Ok u) = None
+numbered (Err e) = Some (refusal-number e)
 
 abbrev pub done-or : Result (Unit {0}) PlanRefusal → Answer
 done-or (Ok u) = done

@@ -3,12 +3,13 @@
 --
 --   Ledger            the level of the square, whose side is 2 ^ level, the number of places, and the grade of each cell
 --   Call, Answer      what is asked of a plan, and what it answers; a refusal is known by its number
+--   open-refusal h n  the number of the refusal to open a plan of level h over n places, or none
 --   refusal l c       the number of the first refusal that fits the call and the ledger, or none
 --   answer l c        what the call is answered
 --   next l c          the ledger after the call
 --   answers, after    the same of a run of calls, one after another
 --   entries l         the marks of the ledger, row by row
-use mathlib.Core.Bool.{Bool, true, false, cond, not, _&&_}
+use mathlib.Core.Bool.{Bool, cond, not, _&&_, _||_}
 use mathlib.Core.List.{List, [], _∷_, _++_}
 use Prim.Native.Nat.{ℕ, zero, suc, _^_}
 use lib.Dec.{leb, ltb, eqb}
@@ -76,6 +77,14 @@ pub record Check : Type 0 where
 abbrev pub first : List Check → Option ℕ
 first [] = None
 first (c ∷ rest) = cond (c .fits) (Some (c .number)) (first rest)
+
+abbrev pub open-refusal : ℕ → ℕ → Option ℕ
+open-refusal level places =
+    first (
+      record { number = 1; fits = ltb 10 level }
+      ∷ record { number = 2; fits = eqb places 0 || ltb 65535 places }
+      ∷ []
+    )
 
 abbrev pub refusal : Ledger → Call → Option ℕ
 refusal l (enter m) =
