@@ -11,3 +11,4 @@ mod Entering
 mod Striking
 mod Regrading
 mod Calls
+mod Running

@@ -4,3 +4,4 @@ pub mod Standing
 pub mod Children
 pub mod Refusals
 pub mod Plans
+pub mod Runs

@@ -6,10 +6,15 @@ pub mod plan;
 mod rank;
 pub mod refusal;
 mod relocate;
+pub mod run;
 mod seek;
 mod sink;
 mod square;
 
 pub use place::Place;
 pub use plan::Plan;
+pub use plan::methods::check_open;
 pub use refusal::PlanRefusal;
+pub use run::Answer;
+pub use run::Call;
+pub use run::carry_out;
