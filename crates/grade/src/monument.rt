@@ -34,7 +34,9 @@ impl Monument {
         if class < 1 || class > 5 || year < 1700 || year > 2099 {
             return Err(BadGrade);
         }
-        Ok(Monument { v: (class - 1) * 400 + (year - 1700) })
+        Ok(Monument {
+            v: (class - 1) * 400 + (year - 1700),
+        })
     }
 
     // The class, 1 to 5.
@@ -73,7 +75,11 @@ pub impl Grade for Monument as MonumentGrade {
     fn above(self, other: Monument) -> bool {
         let mine = self.class();
         let theirs = other.class();
-        if mine == theirs { self.year() >= other.year() } else { mine < theirs }
+        if mine == theirs {
+            self.year() >= other.year()
+        } else {
+            mine < theirs
+        }
     }
 
     fn code(self) -> u16 {
@@ -88,7 +94,11 @@ pub impl Grade for Monument as MonumentGrade {
     }
 
     fn step(self, to: Monument) -> Option<u16> {
-        if self.above(to) { Some((to.class() - self.class()) * 512 + (to.year() - 1700)) } else { None }
+        if self.above(to) {
+            Some((to.class() - self.class()) * 512 + (to.year() - 1700))
+        } else {
+            None
+        }
     }
 
     fn back(self, by: u16) -> Option<Monument> {

@@ -31,10 +31,20 @@ pub impl Grade for Points as PointsGrade {
     }
 
     fn step(self, to: Points) -> Option<u16> {
-        if to.value <= self.value { Some(self.value - to.value) } else { None }
+        if to.value <= self.value {
+            Some(self.value - to.value)
+        } else {
+            None
+        }
     }
 
     fn back(self, by: u16) -> Option<Points> {
-        if by <= self.value { Some(Points { value: self.value - by }) } else { None }
+        if by <= self.value {
+            Some(Points {
+                value: self.value - by,
+            })
+        } else {
+            None
+        }
     }
 }

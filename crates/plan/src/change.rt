@@ -6,8 +6,6 @@ ghost use lib.ListN.{length};
 ghost use Rattle.boxtree.specs.Marks.{spot-of, spots-of};
 ghost use Rattle.plan.specs.Standing.{Found};
 ghost use Rattle.plan.specs.Plans.{root as root-at, plan-tree, Shape, on-plan, Entered, Struck, Regraded};
-use boxtree::mark::Mark;
-use boxtree::mark::MarkClone;
 use crate::lift::lift;
 use crate::place::Place;
 use crate::place::PlaceClone;
@@ -17,6 +15,8 @@ use crate::relocate::relocate;
 use crate::seek::seek;
 use crate::sink::sink;
 use crate::square::Square;
+use boxtree::mark::Mark;
+use boxtree::mark::MarkClone;
 use grade::Grade;
 
 // The place of the root of a plan.
@@ -36,16 +36,37 @@ pub(crate) fn on_plan_of(h: u32, row: u16, col: u16) -> bool
 }
 
 // The mark in a cell that lies on the plan.
-pub(crate) fn mark_in<G: Grade>(places: &[Place<G>], h: u32, count: u16, row: u16, col: u16) -> Option<Mark<G>>
+pub(crate) fn mark_in<G: Grade>(
+    places: &[Place<G>],
+    h: u32,
+    count: u16,
+    row: u16,
+    col: u16,
+) -> Option<Mark<G>>
     requires shape { ⌜ Shape (G·Grade .kind) (G·Grade .coded) h count (now places) ⌝ }
     requires inside { ⌜ on-plan h row col ≡ true ⌝ }
     ensures { λ r. ⌜ Found row col (plan-tree (G·Grade .coded) h count (now (places .entry))) (spots-of (G·Grade .coded) r) ⌝ }
 {
-    seek(places, root(count), Square { level: h, top: 0, left: 0 }, row, col)
+    seek(
+        places,
+        root(count),
+        Square {
+            level: h,
+            top: 0,
+            left: 0,
+        },
+        row,
+        col,
+    )
 }
 
 // Enters a mark, and answers how many there are then.
-pub(crate) fn add<G: Grade>(places: &mut [Place<G>], h: u32, count: u16, mark: Mark<G>) -> Result<u16, PlanRefusal>
+pub(crate) fn add<G: Grade>(
+    places: &mut [Place<G>],
+    h: u32,
+    count: u16,
+    mark: Mark<G>,
+) -> Result<u16, PlanRefusal>
     requires { ⌜ Shape (G·Grade .kind) (G·Grade .coded) h count (now places) ⌝ }
     ensures { λ r. ⌜ Entered (G·Grade .kind) (G·Grade .coded) h count (spot-of (G·Grade .coded) mark) (now (places .entry)) (now (places .exit)) r ⌝ }
 {
@@ -60,7 +81,17 @@ pub(crate) fn add<G: Grade>(places: &mut [Place<G>], h: u32, count: u16, mark: M
             }
             // a grade's code is lawful by what `code` promises
             let _ = mark.grade.code();
-            sink(places, root(count), Square { level: h, top: 0, left: 0 }, mark, count);
+            sink(
+                places,
+                root(count),
+                Square {
+                    level: h,
+                    top: 0,
+                    left: 0,
+                },
+                mark,
+                count,
+            );
             Ok(count + 1)
         }
     }
@@ -68,7 +99,13 @@ pub(crate) fn add<G: Grade>(places: &mut [Place<G>], h: u32, count: u16, mark: M
 
 // Strikes the mark in a cell and answers its grade. The last place moves into the one that is free, so that the boxes
 // fill the places before it again.
-pub(crate) fn take<G: Grade>(places: &mut [Place<G>], h: u32, count: u16, row: u16, col: u16) -> Result<G, PlanRefusal>
+pub(crate) fn take<G: Grade>(
+    places: &mut [Place<G>],
+    h: u32,
+    count: u16,
+    row: u16,
+    col: u16,
+) -> Result<G, PlanRefusal>
     requires { ⌜ Shape (G·Grade .kind) (G·Grade .coded) h count (now places) ⌝ }
     ensures { λ r. ⌜ Struck (G·Grade .kind) (G·Grade .coded) h count row col (now (places .entry)) (now (places .exit)) r ⌝ }
 {
@@ -78,7 +115,11 @@ pub(crate) fn take<G: Grade>(places: &mut [Place<G>], h: u32, count: u16, row: u
     match mark_in(places, h, count, row, col) {
         None => Err(PlanRefusal::Vacant),
         Some(mark) => {
-            let square = Square { level: h, top: 0, left: 0 };
+            let square = Square {
+                level: h,
+                top: 0,
+                left: 0,
+            };
             let freed = lift(places, root(count), square, mark);
             let last = count - 1;
             if freed.place == last {
@@ -92,7 +133,12 @@ pub(crate) fn take<G: Grade>(places: &mut [Place<G>], h: u32, count: u16, row: u
 }
 
 // Gives the mark in a cell another grade: strikes it and enters it anew.
-pub(crate) fn replace<G: Grade>(places: &mut [Place<G>], h: u32, count: u16, mark: Mark<G>) -> Result<(), PlanRefusal>
+pub(crate) fn replace<G: Grade>(
+    places: &mut [Place<G>],
+    h: u32,
+    count: u16,
+    mark: Mark<G>,
+) -> Result<(), PlanRefusal>
     requires { ⌜ Shape (G·Grade .kind) (G·Grade .coded) h count (now places) ⌝ }
     ensures { λ r. ⌜ Regraded (G·Grade .kind) (G·Grade .coded) h count (spot-of (G·Grade .coded) mark) (now (places .entry)) (now (places .exit)) r ⌝ }
 {

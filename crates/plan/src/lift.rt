@@ -9,8 +9,6 @@ ghost use Rattle.plan.specs.Squares.{square-of, quadrant-of, Fits};
 ghost use Rattle.plan.specs.Places.{cells, cell-of, Below, link};
 ghost use Rattle.plan.specs.Standing.{tree-in, Stands, Lifted, Linked};
 ghost use Rattle.plan.specs.Children.{children-of, Child-at, Better, Best};
-use boxtree::mark::Mark;
-use boxtree::mark::MarkClone;
 use crate::place::Place;
 use crate::place::PlaceClone;
 use crate::place::read;
@@ -19,6 +17,8 @@ use crate::rank::outranks;
 use crate::rank::stands_in;
 use crate::square::Quadrant;
 use crate::square::Square;
+use boxtree::mark::Mark;
+use boxtree::mark::MarkClone;
 use grade::Grade;
 
 // A box right below another: its quadrant, its place and its mark.
@@ -38,7 +38,11 @@ fn child_in<G: Grade>(places: &[Place<G>], here: Place<G>, quadrant: Quadrant) -
         None => None,
         Some(place) => {
             let there = read(places, place);
-            Some(Child { quadrant, place, mark: there.mark })
+            Some(Child {
+                quadrant,
+                place,
+                mark: there.mark,
+            })
         }
     }
 }
@@ -51,7 +55,11 @@ fn better<G: Grade>(first: Option<Child<G>>, second: Option<Child<G>>) -> Option
         None => second,
         Some(x) => match second {
             None => Some(x),
-            Some(y) => if outranks(y.mark, x.mark) { Some(y) } else { Some(x) },
+            Some(y) => if outranks(y.mark, x.mark) {
+                Some(y)
+            } else {
+                Some(x)
+            },
         },
     }
 }
@@ -65,7 +73,10 @@ fn best_child<G: Grade>(places: &[Place<G>], here: Place<G>) -> Option<Child<G>>
     let top_right = child_in(places, here, Quadrant::TopRight);
     let bottom_left = child_in(places, here, Quadrant::BottomLeft);
     let bottom_right = child_in(places, here, Quadrant::BottomRight);
-    better(better(top_left, top_right), better(bottom_left, bottom_right))
+    better(
+        better(top_left, top_right),
+        better(bottom_left, bottom_right),
+    )
 }
 
 // What is left of a tree once a mark is taken out of it: the place of its root, and the place that is now free.
@@ -85,17 +96,32 @@ pub(crate) fn pull<G: Grade>(places: &mut [Place<G>], i: u16, square: Square) ->
 {
     let here = read(places, i);
     match best_child(places, here) {
-        None => Freed { root: None, place: i },
+        None => Freed {
+            root: None,
+            place: i,
+        },
         Some(best) => {
             let freed = pull(places, best.place, square.part(best.quadrant));
-            write(places, i, here.relinked(best.mark, best.quadrant, freed.root));
-            Freed { root: Some(i), place: freed.place }
+            write(
+                places,
+                i,
+                here.relinked(best.mark, best.quadrant, freed.root),
+            );
+            Freed {
+                root: Some(i),
+                place: freed.place,
+            }
         }
     }
 }
 
 // Takes a mark that the tree shows out of it.
-pub(crate) fn lift<G: Grade>(places: &mut [Place<G>], root: Option<u16>, square: Square, mark: Mark<G>) -> Freed
+pub(crate) fn lift<G: Grade>(
+    places: &mut [Place<G>],
+    root: Option<u16>,
+    square: Square,
+    mark: Mark<G>,
+) -> Freed
     requires few { ⌜ length (now places) ≤ 65535 ⌝ }
     requires fits { ⌜ Fits (square-of square) ⌝ }
     requires stands { ⌜ Stands (G·Grade .kind) (square-of square) (length (now places)) (tree-in (square-of square) (cells (G·Grade .coded) (now places)) root) ⌝ }
@@ -103,7 +129,10 @@ pub(crate) fn lift<G: Grade>(places: &mut [Place<G>], root: Option<u16>, square:
     ensures { λ r. ⌜ Lifted (G·Grade .kind) (square-of square) (spot-of (G·Grade .coded) mark) (cells (G·Grade .coded) (now (places .entry))) root (cells (G·Grade .coded) (now (places .exit))) (r .root) (r .place) ⌝ }
 {
     match root {
-        None => Freed { root: None, place: 0 },
+        None => Freed {
+            root: None,
+            place: 0,
+        },
         Some(i) => {
             let here = read(places, i);
             if stands_in(here.mark, mark.row, mark.col) {
@@ -112,7 +141,10 @@ pub(crate) fn lift<G: Grade>(places: &mut [Place<G>], root: Option<u16>, square:
                 let q = square.quadrant_at(mark.row, mark.col);
                 let freed = lift(places, here.link(q), square.part(q), mark);
                 write(places, i, here.relinked(here.mark, q, freed.root));
-                Freed { root: Some(i), place: freed.place }
+                Freed {
+                    root: Some(i),
+                    place: freed.place,
+                }
             }
         }
     }

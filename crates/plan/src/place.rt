@@ -5,9 +5,9 @@ ghost use lib.ListN.{length};
 ghost use Rattle.boxtree.specs.Marks.{spot-of};
 ghost use Rattle.plan.specs.Places.{Below, cells, cell-of, leaf-of, relink, link as link-to, link-of};
 ghost use Rattle.plan.specs.Squares.{quadrant-of};
+use crate::square::Quadrant;
 use boxtree::mark::Mark;
 use boxtree::mark::MarkClone;
-use crate::square::Quadrant;
 use grade::Grade;
 
 // The place of a box, or none, in 16 bits: 0 is none, and any other number is one more than the place.
@@ -30,7 +30,11 @@ impl Link {
     pub(crate) fn place(self) -> Option<u16>
         ensures { λ r. ⌜ r ≡ link-of self ⌝ }
     {
-        if self.next == 0 { None } else { Some(self.next - 1) }
+        if self.next == 0 {
+            None
+        } else {
+            Some(self.next - 1)
+        }
     }
 }
 
@@ -45,6 +49,17 @@ pub struct Place<G> {
 }
 
 impl<G: Grade> Place<G> {
+    // A place to lend to a plan, filled with some grade; no plan reads it before it has written it.
+    pub fn vacant(grade: G) -> Place<G>
+        ensures { λ r. ⌜ cell-of (G·Grade .coded) r ≡ leaf-of (record { row = 0; col = 0; grade = G·Grade .coded grade }) ⌝ }
+    {
+        Place::leaf(Mark {
+            row: 0,
+            col: 0,
+            grade,
+        })
+    }
+
     // A place that holds the mark and no boxes below it.
     pub(crate) fn leaf(mark: Mark<G>) -> Place<G>
         ensures { λ r. ⌜ cell-of (G·Grade .coded) r ≡ leaf-of (spot-of (G·Grade .coded) mark) ⌝ }
@@ -78,10 +93,26 @@ impl<G: Grade> Place<G> {
     {
         let link = Link::new(place);
         match q {
-            Quadrant::TopLeft => Place { mark, top_left: link, ..self },
-            Quadrant::TopRight => Place { mark, top_right: link, ..self },
-            Quadrant::BottomLeft => Place { mark, bottom_left: link, ..self },
-            Quadrant::BottomRight => Place { mark, bottom_right: link, ..self },
+            Quadrant::TopLeft => Place {
+                mark,
+                top_left: link,
+                ..self
+            },
+            Quadrant::TopRight => Place {
+                mark,
+                top_right: link,
+                ..self
+            },
+            Quadrant::BottomLeft => Place {
+                mark,
+                bottom_left: link,
+                ..self
+            },
+            Quadrant::BottomRight => Place {
+                mark,
+                bottom_right: link,
+                ..self
+            },
         }
     }
 }

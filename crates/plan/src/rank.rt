@@ -41,5 +41,9 @@ pub(crate) struct Ranking<G> {
 pub(crate) fn rank_pair<G: Grade>(m: Mark<G>, n: Mark<G>) -> Ranking<G>
     ensures { λ r. ⌜ Ranked (G·Grade .kind) (spot-of (G·Grade .coded) m) (spot-of (G·Grade .coded) n) (spot-of (G·Grade .coded) (r .up)) (spot-of (G·Grade .coded) (r .down)) ⌝ }
 {
-    if outranks(m, n) { Ranking { up: m, down: n } } else { Ranking { up: n, down: m } }
+    if outranks(m, n) {
+        Ranking { up: m, down: n }
+    } else {
+        Ranking { up: n, down: m }
+    }
 }

@@ -7,12 +7,12 @@ ghost use Rattle.treap.specs.Ledgers.{answer, next};
 ghost use Rattle.plan.specs.Refusals.{done-or, graded-or, looked-up};
 ghost use Rattle.plan.specs.Plans.{Sound, ledger};
 ghost use Rattle.plan.specs.Runs.{call-of, answer-of, Ran, Told};
-use boxtree::mark::Mark;
-use boxtree::mark::MarkClone;
 use crate::place::Place;
 use crate::plan::Plan;
 use crate::plan::methods::check_open;
 use crate::refusal::PlanRefusal;
+use boxtree::mark::Mark;
+use boxtree::mark::MarkClone;
 use grade::Grade;
 
 // A call on a plan.
@@ -102,7 +102,11 @@ impl<G: Grade> Plan<'_, G> {
 
 // Carries out calls one after another, whichever of them are refused, and writes down what each is answered: as many calls
 // as there are answers to fill. Answers how many that are.
-pub fn carry_out<G: Grade>(plan: &mut Plan<'_, G>, calls: &[Call<G>], answers: &mut [Answer<G>]) -> usize
+pub fn carry_out<G: Grade>(
+    plan: &mut Plan<'_, G>,
+    calls: &[Call<G>],
+    answers: &mut [Answer<G>],
+) -> usize
     requires { ⌜ Sound (G·Grade .kind) (G·Grade .coded) (now plan) ⌝ }
     ensures count { λ r. ⌜ r ≡ min (length (now (calls .entry))) (length (now (answers .entry))) ⌝ }
     ensures ran { λ r. ⌜ Ran (G·Grade .kind) (G·Grade .coded) (ledger (G·Grade .coded) (now (plan .entry))) (now (calls .entry)) (now (answers .entry)) (now (answers .exit)) (now (plan .exit)) ⌝ }
@@ -117,7 +121,12 @@ pub fn carry_out<G: Grade>(plan: &mut Plan<'_, G>, calls: &[Call<G>], answers: &
 
 // Opens a plan without marks and carries out calls on it. However many calls there are and whichever are refused, answers
 // and marks are those of the ledger that is fed the side, the number of places and the calls alone.
-pub fn run<'a, G: Grade>(h: u32, places: &'a mut [Place<G>], calls: &[Call<G>], answers: &mut [Answer<G>]) -> Result<Plan<'a, G>, PlanRefusal>
+pub fn run<'a, G: Grade>(
+    h: u32,
+    places: &'a mut [Place<G>],
+    calls: &[Call<G>],
+    answers: &mut [Answer<G>],
+) -> Result<Plan<'a, G>, PlanRefusal>
     ensures { λ r. ⌜ Told (G·Grade .kind) (G·Grade .coded) h (length (now (places .entry))) (now (calls .entry)) (now (answers .entry)) (now (answers .exit)) r ⌝ }
 {
     match check_open(h, places.len()) {

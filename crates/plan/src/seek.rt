@@ -5,18 +5,24 @@ ghost use Rattle.boxtree.specs.Marks.{spots-of};
 ghost use Rattle.plan.specs.Squares.{square-of, Fits};
 ghost use Rattle.plan.specs.Places.{cells};
 ghost use Rattle.plan.specs.Standing.{tree-in, Stands, Found};
-use boxtree::mark::Mark;
-use boxtree::mark::MarkClone;
 use crate::place::Place;
 use crate::place::PlaceClone;
 use crate::place::read;
 use crate::rank::stands_in;
 use crate::square::Quadrant;
 use crate::square::Square;
+use boxtree::mark::Mark;
+use boxtree::mark::MarkClone;
 use grade::Grade;
 
 // The mark in a cell of the square, of the tree whose root is in a place.
-pub(crate) fn seek<G: Grade>(places: &[Place<G>], root: Option<u16>, square: Square, row: u16, col: u16) -> Option<Mark<G>>
+pub(crate) fn seek<G: Grade>(
+    places: &[Place<G>],
+    root: Option<u16>,
+    square: Square,
+    row: u16,
+    col: u16,
+) -> Option<Mark<G>>
     requires fits { ⌜ Fits (square-of square) ⌝ }
     requires inside { ⌜ Within (square-of square) row col ⌝ }
     requires stands { ⌜ Stands (G·Grade .kind) (square-of square) (length (now places)) (tree-in (square-of square) (cells (G·Grade .coded) (now places)) root) ⌝ }

@@ -58,9 +58,21 @@ impl Square {
         let Square { top, left, .. } = self;
         match q {
             Quadrant::TopLeft => Square { level, top, left },
-            Quadrant::TopRight => Square { level, top, left: left + half },
-            Quadrant::BottomLeft => Square { level, top: top + half, left },
-            Quadrant::BottomRight => Square { level, top: top + half, left: left + half },
+            Quadrant::TopRight => Square {
+                level,
+                top,
+                left: left + half,
+            },
+            Quadrant::BottomLeft => Square {
+                level,
+                top: top + half,
+                left,
+            },
+            Quadrant::BottomRight => Square {
+                level,
+                top: top + half,
+                left: left + half,
+            },
         }
     }
 }

@@ -81,30 +81,30 @@ first (c ∷ rest) = cond (c .fits) (Some (c .number)) (first rest)
 abbrev pub open-refusal : ℕ → ℕ → Option ℕ
 open-refusal level places =
     first (
-      record { number = 1; fits = ltb 10 level }
-      ∷ record { number = 2; fits = eqb places 0 || ltb 65535 places }
-      ∷ []
+    record { number = 1; fits = ltb 10 level }
+    ∷ record { number = 2; fits = eqb places 0 || ltb 65535 places }
+    ∷ []
     )
 
 abbrev pub refusal : Ledger → Call → Option ℕ
 refusal l (enter m) =
     first (
-      record { number = 4; fits = off l (m .row) (m .col) }
-      ∷ record { number = 5; fits = taken l (m .row) (m .col) }
-      ∷ record { number = 7; fits = full l }
-      ∷ []
+    record { number = 4; fits = off l (m .row) (m .col) }
+    ∷ record { number = 5; fits = taken l (m .row) (m .col) }
+    ∷ record { number = 7; fits = full l }
+    ∷ []
     )
 refusal l (regrade m) =
     first (
-      record { number = 4; fits = off l (m .row) (m .col) }
-      ∷ record { number = 6; fits = not (taken l (m .row) (m .col)) }
-      ∷ []
+    record { number = 4; fits = off l (m .row) (m .col) }
+    ∷ record { number = 6; fits = not (taken l (m .row) (m .col)) }
+    ∷ []
     )
 refusal l (strike row col) =
     first (
-      record { number = 4; fits = off l row col }
-      ∷ record { number = 6; fits = not (taken l row col) }
-      ∷ []
+    record { number = 4; fits = off l row col }
+    ∷ record { number = 6; fits = not (taken l row col) }
+    ∷ []
     )
 refusal l (look row col) = first (record { number = 4; fits = off l row col } ∷ [])
 

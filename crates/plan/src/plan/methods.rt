@@ -11,8 +11,6 @@ ghost use Rattle.treap.specs.Entries.{plan-square};
 ghost use Rattle.treap.specs.Ledgers.{open-refusal, blank, entries, answer, next, enter as entering, regrade as regrading, strike as striking, look as looking};
 ghost use Rattle.plan.specs.Refusals.{numbered, done-or, graded-or, looked-up};
 ghost use Rattle.plan.specs.Plans.{Sound, ledger, shown, Kept};
-use boxtree::mark::Mark;
-use boxtree::mark::MarkClone;
 use crate::change::add;
 use crate::change::mark_in;
 use crate::change::on_plan_of;
@@ -21,6 +19,8 @@ use crate::change::take;
 use crate::place::Place;
 use crate::plan::Plan;
 use crate::refusal::PlanRefusal;
+use boxtree::mark::Mark;
+use boxtree::mark::MarkClone;
 use grade::Grade;
 
 // Whether a plan of side 2 to the power `h` can be opened over so many places.
@@ -43,7 +43,11 @@ impl<'a, G: Grade> Plan<'a, G> {
         ensures sound { λ r. ⌜ Sound (G·Grade .kind) (G·Grade .coded) r ⌝ }
         ensures blank { λ r. ⌜ ledger (G·Grade .coded) r ≡ blank h (length (now (places .entry))) ⌝ }
     {
-        Plan { h, count: 0, places }
+        Plan {
+            h,
+            count: 0,
+            places,
+        }
     }
 }
 
