@@ -12,6 +12,7 @@ mod sink;
 mod square;
 
 pub use place::Place;
+pub use place::PlaceClone;
 pub use plan::Plan;
 pub use plan::methods::check_open;
 pub use refusal::PlanRefusal;
