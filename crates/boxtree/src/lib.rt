@@ -1,2 +1,2 @@
-// What every box tree is made of.
+//! What every box tree is made of.
 pub mod mark;

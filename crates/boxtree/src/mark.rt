@@ -1,4 +1,4 @@
-// A mark: a cell of the grid, and the grade that stands there.
+//! A mark: a cell of the grid, and the grade that stands there.
 #[derive(Clone, Copy)]
 pub struct Mark<G> {
     pub row: u16,

@@ -1,4 +1,4 @@
-// Monuments: grades of a class, 1 to 5, and a year, 1700 to 2099.
+//! Monuments: grades of a class, 1 to 5, and a year, 1700 to 2099.
 ghost use mathlib.Core.Path.{_≡_};
 ghost use Prim.Native.Nat.{ℕ};
 ghost use lib.Dec.{eqb};
@@ -6,19 +6,19 @@ ghost use Rattle.grade.specs.Kinds.{monument, read-class, read-year, read-code
 ghost use Rattle.grade.specs.Refusal.{made-as, monument-made, bad-grade-number};
 use crate::Grade;
 
-// A grade of the lower class stands above, and of one class the later year does. Whatever the number `v` is, it is read
-// as a lawful grade: class 1 + (v mod 2000) div 400, year 1700 + v mod 400.
+/// A grade of the lower class stands above, and of one class the later year does. Whatever the number `v` is, it is read
+/// as a lawful grade: class 1 + (v mod 2000) div 400, year 1700 + v mod 400.
 #[derive(Clone, Copy)]
 pub struct Monument {
     v: u16,
 }
 
-// The class or the year is out of range.
+/// The class or the year is out of range.
 #[derive(Clone, Copy)]
 pub struct BadGrade;
 
 impl BadGrade {
-    // The number of the refusal.
+    /// The number of the refusal.
     pub fn number(self) -> u8
         ensures { λ r. ⌜ r ≡ bad-grade-number self ⌝ }
     {
@@ -27,7 +27,7 @@ impl BadGrade {
 }
 
 impl Monument {
-    // The monument of a class and a year.
+    /// The monument of a class and a year.
     pub fn new(class: u16, year: u16) -> Result<Monument, BadGrade>
         ensures { λ r. ⌜ made-as r ≡ monument-made class year ⌝ }
     {
@@ -39,14 +39,14 @@ impl Monument {
         })
     }
 
-    // The class, 1 to 5.
+    /// The class, 1 to 5.
     pub fn class(self) -> u16
         ensures { λ r. ⌜ r ≡ read-class (self .v) ⌝ }
     {
         1 + (self.v % 2000) / 400
     }
 
-    // The year, 1700 to 2099.
+    /// The year, 1700 to 2099.
     pub fn year(self) -> u16
         ensures { λ r. ⌜ r ≡ read-year (self .v) ⌝ }
     {
@@ -54,7 +54,7 @@ impl Monument {
     }
 }
 
-// Monuments are equal where their classes and years are, whatever numbers they are held by.
+/// Monuments are equal where their classes and years are, whatever numbers they are held by.
 pub impl PartialEq<Monument> for Monument as MonumentEq {
     ghost equals = { λ m n r. r ≡ eqb (read-code (m .v)) (read-code (n .v)) };
 

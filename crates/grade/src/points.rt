@@ -1,9 +1,9 @@
-// Points: the grades 0 to 65,535, of which the larger stands above.
+//! Points: the grades 0 to 65,535, of which the larger stands above.
 ghost use mathlib.Core.Path.{_≡_};
 ghost use Rattle.grade.specs.Kinds.{points};
 use crate::Grade;
 
-// A grade in points. The code is the number.
+/// A grade in points. The code is the number.
 #[derive(Clone, Copy)]
 pub struct Points {
     pub value: u16,

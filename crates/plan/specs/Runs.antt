@@ -2,12 +2,14 @@
 --
 --   call-of code c       the call c
 --   answer-of code a     the answer a
+--   Unchanged p q a      the plan q is p, where the answer a is a refusal
 --   Ran                  a plan was opened without marks and has carried out calls: its answers are those of the ledger that is
 --                        fed the side, the number of places and the calls alone, and it shows the marks of that ledger
 use mathlib.Core.Path.{_≡_}
 use mathlib.Core.List.{List, map}
 use Prim.Native.Nat.{ℕ, min}
 use lib.ListN.{length, take, drop}
+use denote.Ref.{now}
 use Rattle.std.specs.declared.result.Result.{Result}
 use Rattle.std.specs.declared.result.Result.the-variants.{Ok, Err}
 use Rattle.std.specs.declared.option.Option.the-variants.{None, Some}
@@ -37,6 +39,13 @@ answer-of code Done = ledgers.done
 answer-of code (Grade g) = ledgers.graded (code g)
 answer-of code Vacant = ledgers.vacant
 answer-of code (Refused e) = ledgers.refused (refusal-number e)
+
+-- a refused call leaves the plan as it was
+abbrev pub Unchanged : {G : Type 0} → Plan G → Plan G → Answer G → Type 0
+Unchanged p q Done = Unit {0}
+Unchanged p q (Grade g) = Unit {0}
+Unchanged p q Vacant = Unit {0}
+Unchanged p q (Refused e) = (q .h ≡ p .h) × (q .count ≡ p .count) × (now (q .places) ≡ now (p .places))
 
 -- the calls that are carried out: as many as there are answers to fill
 abbrev pub carried : {G : Type 0} → (G → ℕ) → List (Call G) → ℕ → List ledgers.Call

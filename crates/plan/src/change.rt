@@ -1,4 +1,4 @@
-// What the calls on a plan do in its places.
+//! What the calls on a plan do in its places.
 ghost use mathlib.Core.Path.{_≡_};
 ghost use mathlib.Core.Bool.{true};
 ghost use Prim.Native.Nat.{ℕ, _^_, _≤_};

@@ -1,4 +1,4 @@
-// Plans: marks on a square grid, entered, regraded, struck and looked up, in places lent by the caller.
+//! Plans: marks on a square grid, entered, regraded, struck and looked up, in places lent by the caller.
 mod change;
 mod lift;
 mod place;

@@ -1,4 +1,4 @@
-// Taking a mark out of the tree of a plan.
+//! Taking a mark out of the tree of a plan.
 ghost use mathlib.Core.Path.{_≡_};
 ghost use Prim.Native.Nat.{ℕ, _<_, _≤_};
 ghost use lib.ListN.{length};

@@ -1,4 +1,4 @@
-// A place holds one box of a plan: its mark, and which places hold the boxes of its quadrants.
+//! A place holds one box of a plan: its mark, and which places hold the boxes of its quadrants.
 ghost use mathlib.Core.Path.{_≡_};
 ghost use Prim.Native.Nat.{ℕ, _<_};
 ghost use lib.ListN.{length};
@@ -38,7 +38,7 @@ impl Link {
     }
 }
 
-// A place of a plan. The plan alone writes and reads it.
+/// A place of a plan. The plan alone writes and reads it.
 #[derive(Clone, Copy)]
 pub struct Place<G> {
     pub(crate) mark: Mark<G>,
@@ -49,7 +49,7 @@ pub struct Place<G> {
 }
 
 impl<G: Grade> Place<G> {
-    // A place to lend to a plan, filled with some grade; no plan reads it before it has written it.
+    /// A place to lend to a plan, filled with some grade; no plan reads it before it has written it.
     pub fn vacant(grade: G) -> Place<G>
         ensures { λ r. ⌜ cell-of (G·Grade .coded) r ≡ leaf-of (record { row = 0; col = 0; grade = G·Grade .coded grade }) ⌝ }
     {

@@ -1,4 +1,4 @@
-// Which of two marks outranks the other, and where a mark stands.
+//! Which of two marks outranks the other, and where a mark stands.
 ghost use mathlib.Core.Path.{_≡_};
 ghost use Rattle.boxtree.specs.Marks.{spot-of};
 ghost use Rattle.treap.specs.Spots.{Outranks};

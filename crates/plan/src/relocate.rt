@@ -1,4 +1,4 @@
-// Moving a box from one place to another.
+//! Moving a box from one place to another.
 ghost use Prim.Native.Nat.{ℕ, _≤_};
 ghost use lib.ListN.{length};
 ghost use Rattle.boxtree.specs.Marks.{spot-of};

@@ -1,12 +1,11 @@
-// Calls as values, and runs of them.
+//! Calls as values, and runs of them.
 ghost use mathlib.Core.Path.{_≡_};
 ghost use mathlib.Core.List.{map};
 ghost use Prim.Native.Nat.{ℕ, _<_, min};
 ghost use lib.ListN.{length, getD, set};
 ghost use Rattle.treap.specs.Ledgers.{answer, next};
-ghost use Rattle.plan.specs.Refusals.{done-or, graded-or, looked-up};
 ghost use Rattle.plan.specs.Plans.{Sound, ledger};
-ghost use Rattle.plan.specs.Runs.{call-of, answer-of, Ran, Told};
+ghost use Rattle.plan.specs.Runs.{call-of, answer-of, Unchanged, Ran, Told};
 use crate::place::Place;
 use crate::plan::Plan;
 use crate::plan::methods::check_open;
@@ -15,7 +14,7 @@ use boxtree::mark::Mark;
 use boxtree::mark::MarkClone;
 use grade::Grade;
 
-// A call on a plan.
+/// A call on a plan.
 #[derive(Clone, Copy)]
 pub enum Call<G> {
     Enter(Mark<G>),
@@ -24,43 +23,13 @@ pub enum Call<G> {
     Look(u16, u16),
 }
 
-// What a call is answered: a mark is entered or regraded, a grade is struck or looked up, the cell is vacant, or a refusal.
+/// What a call is answered: a mark is entered or regraded, a grade is struck or looked up, the cell is vacant, or a refusal.
 #[derive(Clone, Copy)]
 pub enum Answer<G> {
     Done,
     Grade(G),
     Vacant,
     Refused(PlanRefusal),
-}
-
-fn done<G: Grade>(r: Result<(), PlanRefusal>) -> Answer<G>
-    ensures { λ a. ⌜ answer-of (G·Grade .coded) a ≡ done-or r ⌝ }
-{
-    match r {
-        Ok(_) => Answer::Done,
-        Err(e) => Answer::Refused(e),
-    }
-}
-
-fn struck<G: Grade>(r: Result<G, PlanRefusal>) -> Answer<G>
-    ensures { λ a. ⌜ answer-of (G·Grade .coded) a ≡ graded-or (G·Grade .coded) r ⌝ }
-{
-    match r {
-        Ok(grade) => Answer::Grade(grade),
-        Err(e) => Answer::Refused(e),
-    }
-}
-
-fn seen<G: Grade>(r: Result<Option<G>, PlanRefusal>) -> Answer<G>
-    ensures { λ a. ⌜ answer-of (G·Grade .coded) a ≡ looked-up (G·Grade .coded) r ⌝ }
-{
-    match r {
-        Ok(o) => match o {
-            Some(grade) => Answer::Grade(grade),
-            None => Answer::Vacant,
-        },
-        Err(e) => Answer::Refused(e),
-    }
 }
 
 fn call_at<G: Copy>(calls: &[Call<G>], i: usize) -> Call<G>
@@ -84,24 +53,40 @@ fn shorter(a: usize, b: usize) -> usize
 }
 
 impl<G: Grade> Plan<'_, G> {
-    // Carries out one call.
+    /// Carries out one call.
     pub fn call(&mut self, call: Call<G>) -> Answer<G>
         requires { ⌜ Sound (G·Grade .kind) (G·Grade .coded) (now self) ⌝ }
         ensures sound { λ r. ⌜ Sound (G·Grade .kind) (G·Grade .coded) (now (self .exit)) ⌝ }
         ensures answered { λ r. ⌜ answer-of (G·Grade .coded) r ≡ answer (ledger (G·Grade .coded) (now (self .entry))) (call-of (G·Grade .coded) call) ⌝ }
         ensures followed { λ r. ⌜ ledger (G·Grade .coded) (now (self .exit)) ≡ next (ledger (G·Grade .coded) (now (self .entry))) (call-of (G·Grade .coded) call) ⌝ }
+        ensures kept { λ r. ⌜ Unchanged (now (self .entry)) (now (self .exit)) r ⌝ }
     {
         match call {
-            Call::Enter(mark) => done(self.enter(mark)),
-            Call::Regrade(mark) => done(self.regrade(mark)),
-            Call::Strike(row, col) => struck(self.strike(row, col)),
-            Call::Look(row, col) => seen(self.look(row, col)),
+            Call::Enter(mark) => match self.enter(mark) {
+                Ok(_) => Answer::Done,
+                Err(e) => Answer::Refused(e),
+            },
+            Call::Regrade(mark) => match self.regrade(mark) {
+                Ok(_) => Answer::Done,
+                Err(e) => Answer::Refused(e),
+            },
+            Call::Strike(row, col) => match self.strike(row, col) {
+                Ok(grade) => Answer::Grade(grade),
+                Err(e) => Answer::Refused(e),
+            },
+            Call::Look(row, col) => match self.look(row, col) {
+                Ok(o) => match o {
+                    Some(grade) => Answer::Grade(grade),
+                    None => Answer::Vacant,
+                },
+                Err(e) => Answer::Refused(e),
+            },
         }
     }
 }
 
 // Carries out calls one after another, whichever of them are refused, and writes down what each is answered: as many calls
-// as there are answers to fill. Answers how many that are.
+/// as there are answers to fill. Answers how many that are.
 pub fn carry_out<G: Grade>(
     plan: &mut Plan<'_, G>,
     calls: &[Call<G>],
@@ -119,8 +104,8 @@ pub fn carry_out<G: Grade>(
     count
 }
 
-// Opens a plan without marks and carries out calls on it. However many calls there are and whichever are refused, answers
-// and marks are those of the ledger that is fed the side, the number of places and the calls alone.
+/// Opens a plan without marks and carries out calls on it. However many calls there are and whichever are refused, answers
+/// and marks are those of the ledger that is fed the side, the number of places and the calls alone.
 pub fn run<'a, G: Grade>(
     h: u32,
     places: &'a mut [Place<G>],

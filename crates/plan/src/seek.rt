@@ -1,4 +1,4 @@
-// Looking for the mark of a cell.
+//! Looking for the mark of a cell.
 ghost use lib.ListN.{length};
 ghost use Rattle.treap.specs.Trees.{Within};
 ghost use Rattle.boxtree.specs.Marks.{spots-of};

@@ -1,4 +1,4 @@
-// Entering a mark into the tree of a plan.
+//! Entering a mark into the tree of a plan.
 ghost use Prim.Native.Nat.{ℕ, _≤_};
 ghost use lib.ListN.{length};
 ghost use Rattle.boxtree.specs.Marks.{spot-of};

@@ -1,4 +1,4 @@
-// The square of a box and its quadrants.
+//! The square of a box and its quadrants.
 ghost use mathlib.Core.Path.{_≡_};
 ghost use Prim.Native.Nat.{ℕ, _^_, _<_, _≤_, pred};
 ghost use Rattle.treap.specs.Trees.{Within, quadrant};

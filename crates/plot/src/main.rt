@@ -4,7 +4,6 @@ ghost use Rattle.std.specs.Vec.{made};
 ghost use Rattle.grade.specs.Kinds.{points};
 ghost use Rattle.plan.specs.Plans.{Sound};
 ghost use lib.ListN.{length};
-
 use book::ReplyDisplay;
 use book::first_line;
 use grade::points::Points;

@@ -5,10 +5,12 @@
 --   followed d c      the desk after the command c
 --   Answers d line r e
 --                     the line is answered by r, and leaves the desk e
+--   Unchanged s t r   the session t is s, where the answer r is a refusal
 use mathlib.Core.Path.{_≡_}
 use mathlib.Core.Bool.{Bool, true, cond}
 use mathlib.Core.List.{List}
 use Prim.Native.Nat.{ℕ}
+use denote.Ref.{now}
 use Rattle.std.specs.declared.option.Option.{Option}
 use Rattle.std.specs.declared.option.Option.the-variants.{None, Some}
 use Rattle.treap.specs.Spots.{Spot}
@@ -79,3 +81,14 @@ followed d (Draw top left bottom right k) = d
 pub record Answers (d : Desk) (line : List ℕ) (r : Reply) (e : Desk) : Type 0 where
   pub usable : (c : Command) → Says line c → (r ≡ replied d c) × (e ≡ followed d c)
   pub unusable : ((c : Command) → Says line c → ⊥) → (r ≡ No 24) × (e ≡ d)
+
+-- a refused line leaves the session as it was
+abbrev pub Unchanged : Session → Session → Reply → Type 0
+Unchanged s t Done = Unit {0}
+Unchanged s t (Grade g) = Unit {0}
+Unchanged s t Vacant = Unit {0}
+Unchanged s t (No n) =
+    (t .started ≡ s .started)
+    × (t .plan .h ≡ s .plan .h)
+    × (t .plan .count ≡ s .plan .count)
+    × (now (t .plan .places) ≡ now (s .plan .places))

@@ -6,51 +6,19 @@ ghost use lib.ListN.{length};
 ghost use Rattle.std.specs.declared.option.Option.the-variants.{None};
 ghost use Rattle.grade.specs.Kinds.{points};
 ghost use Rattle.treap.specs.Ledgers.{open-refusal, blank};
-ghost use Rattle.plan.specs.Refusals.{done-or, graded-or, looked-up, numbered};
-ghost use Rattle.plan.specs.Plans.{Sound, ledger};
-ghost use Rattle.session.specs.Sessions.{desk, replied, followed, reply-of, struck-reply, Answers};
+ghost use Rattle.plan.specs.Plans.{Sound};
+ghost use Rattle.session.specs.Sessions.{desk, replied, followed, Answers, Unchanged};
+use crate::session::Session;
 use book::Command;
 use book::Reply;
 use book::Unusable;
 use book::parse;
 use boxtree::mark::Mark;
-use crate::session::Session;
 use grade::points::Points;
 use grade::points::PointsGrade;
 use plan::Place;
 use plan::Plan;
-use plan::PlanRefusal;
 use plan::check_open;
-
-fn done(r: Result<(), PlanRefusal>) -> Reply
-    ensures { λ a. ⌜ a ≡ reply-of (done-or r) ⌝ }
-{
-    match r {
-        Ok(_) => Reply::Done,
-        Err(e) => Reply::No(e.number()),
-    }
-}
-
-fn struck(r: Result<Points, PlanRefusal>) -> Reply
-    ensures { λ a. ⌜ a ≡ struck-reply (graded-or (λ p. p .value) r) ⌝ }
-{
-    match r {
-        Ok(_) => Reply::Done,
-        Err(e) => Reply::No(e.number()),
-    }
-}
-
-fn looked(r: Result<Option<Points>, PlanRefusal>) -> Reply
-    ensures { λ a. ⌜ a ≡ reply-of (looked-up (λ p. p .value) r) ⌝ }
-{
-    match r {
-        Ok(o) => match o {
-            Some(grade) => Reply::Grade(grade.value),
-            None => Reply::Vacant,
-        },
-        Err(e) => Reply::No(e.number()),
-    }
-}
 
 impl<'a> Session<'a> {
     /// A session over places that are lent to it, with no plan opened yet.
@@ -74,6 +42,7 @@ impl Session<'_> {
         ensures sound { λ r. ⌜ Sound points (λ p. p .value) (now (self .exit) .plan) ⌝ }
         ensures answered { λ r. ⌜ r ≡ replied (desk (now (self .entry))) command ⌝ }
         ensures followed { λ r. ⌜ desk (now (self .exit)) ≡ followed (desk (now (self .entry))) command ⌝ }
+        ensures kept { λ r. ⌜ Unchanged (now (self .entry)) (now (self .exit)) r ⌝ }
     {
         match command {
             Command::New { h } => match check_open(u32::from(h), self.plan.places()) {
@@ -88,25 +57,48 @@ impl Session<'_> {
                 if !self.started {
                     return Reply::No(Unusable.number());
                 }
-                done(self.plan.enter(Mark { row, col, grade: Points { value: grade } }))
+                match self.plan.enter(Mark {
+                    row,
+                    col,
+                    grade: Points { value: grade },
+                }) {
+                    Ok(_) => Reply::Done,
+                    Err(e) => Reply::No(e.number()),
+                }
             }
             Command::Regrade { row, col, grade } => {
                 if !self.started {
                     return Reply::No(Unusable.number());
                 }
-                done(self.plan.regrade(Mark { row, col, grade: Points { value: grade } }))
+                match self.plan.regrade(Mark {
+                    row,
+                    col,
+                    grade: Points { value: grade },
+                }) {
+                    Ok(_) => Reply::Done,
+                    Err(e) => Reply::No(e.number()),
+                }
             }
             Command::Strike { row, col } => {
                 if !self.started {
                     return Reply::No(Unusable.number());
                 }
-                struck(self.plan.strike(row, col))
+                match self.plan.strike(row, col) {
+                    Ok(_) => Reply::Done,
+                    Err(e) => Reply::No(e.number()),
+                }
             }
             Command::Look { row, col } => {
                 if !self.started {
                     return Reply::No(Unusable.number());
                 }
-                looked(self.plan.look(row, col))
+                match self.plan.look(row, col) {
+                    Ok(o) => match o {
+                        Some(grade) => Reply::Grade(grade.value),
+                        None => Reply::Vacant,
+                    },
+                    Err(e) => Reply::No(e.number()),
+                }
             }
             Command::Draw { .. } => Reply::No(Unusable.number()),
         }
@@ -117,6 +109,7 @@ impl Session<'_> {
         requires { ⌜ Sound points (λ p. p .value) (now self .plan) ⌝ }
         ensures sound { λ r. ⌜ Sound points (λ p. p .value) (now (self .exit) .plan) ⌝ }
         ensures answered { λ r. ⌜ Answers (desk (now (self .entry))) (now (line .entry)) r (desk (now (self .exit))) ⌝ }
+        ensures kept { λ r. ⌜ Unchanged (now (self .entry)) (now (self .exit)) r ⌝ }
     {
         match parse(line) {
             Ok(command) => self.obey(command),

@@ -1,4 +1,4 @@
-// The calls on a plan. A refused call leaves the plan and its places as they were.
+//! The calls on a plan. A refused call leaves the plan and its places as they were.
 ghost use mathlib.Core.Path.{_≡_};
 ghost use mathlib.Core.Bool.{true};
 ghost use Prim.Native.Nat.{ℕ};
@@ -23,7 +23,7 @@ use boxtree::mark::Mark;
 use boxtree::mark::MarkClone;
 use grade::Grade;
 
-// Whether a plan of side 2 to the power `h` can be opened over so many places.
+/// Whether a plan of side 2 to the power `h` can be opened over so many places.
 pub fn check_open(h: u32, places: usize) -> Result<(), PlanRefusal>
     ensures { λ r. ⌜ numbered r ≡ open-refusal h places ⌝ }
 {
@@ -37,7 +37,7 @@ pub fn check_open(h: u32, places: usize) -> Result<(), PlanRefusal>
 }
 
 impl<'a, G: Grade> Plan<'a, G> {
-    // A plan with no marks, over places that are lent to it.
+    /// A plan with no marks, over places that are lent to it.
     pub fn open(h: u32, places: &'a mut [Place<G>]) -> Plan<'a, G>
         requires { ⌜ open-refusal h (length (now places)) ≡ None ⌝ }
         ensures sound { λ r. ⌜ Sound (G·Grade .kind) (G·Grade .coded) r ⌝ }
@@ -52,7 +52,7 @@ impl<'a, G: Grade> Plan<'a, G> {
 }
 
 impl<G: Grade> Plan<'_, G> {
-    // Strikes all marks, and makes the side 2 to the power `h`.
+    /// Strikes all marks, and makes the side 2 to the power `h`.
     pub fn reopen(&mut self, h: u32)
         requires { ⌜ open-refusal h (length (now (now self .places))) ≡ None ⌝ }
         ensures sound { λ _. ⌜ Sound (G·Grade .kind) (G·Grade .coded) (now (self .exit)) ⌝ }
@@ -62,7 +62,7 @@ impl<G: Grade> Plan<'_, G> {
         self.count = 0;
     }
 
-    // Enters a mark. Refused where its cell lies off the plan or has a mark, or where there are as many marks as places.
+    /// Enters a mark. Refused where its cell lies off the plan or has a mark, or where there are as many marks as places.
     pub fn enter(&mut self, mark: Mark<G>) -> Result<(), PlanRefusal>
         requires { ⌜ Sound (G·Grade .kind) (G·Grade .coded) (now self) ⌝ }
         ensures sound { λ r. ⌜ Sound (G·Grade .kind) (G·Grade .coded) (now (self .exit)) ⌝ }
@@ -81,7 +81,7 @@ impl<G: Grade> Plan<'_, G> {
         }
     }
 
-    // Gives the mark in a cell another grade, or the same. Refused where the cell lies off the plan or has no mark.
+    /// Gives the mark in a cell another grade, or the same. Refused where the cell lies off the plan or has no mark.
     pub fn regrade(&mut self, mark: Mark<G>) -> Result<(), PlanRefusal>
         requires { ⌜ Sound (G·Grade .kind) (G·Grade .coded) (now self) ⌝ }
         ensures sound { λ r. ⌜ Sound (G·Grade .kind) (G·Grade .coded) (now (self .exit)) ⌝ }
@@ -97,8 +97,8 @@ impl<G: Grade> Plan<'_, G> {
         }
     }
 
-    // Strikes the mark in a cell and answers its grade; its place is free again. Refused where the cell lies off the plan or
-    // has no mark.
+    /// Strikes the mark in a cell and answers its grade; its place is free again. Refused where the cell lies off the plan or
+    /// has no mark.
     pub fn strike(&mut self, row: u16, col: u16) -> Result<G, PlanRefusal>
         requires { ⌜ Sound (G·Grade .kind) (G·Grade .coded) (now self) ⌝ }
         ensures sound { λ r. ⌜ Sound (G·Grade .kind) (G·Grade .coded) (now (self .exit)) ⌝ }
@@ -117,7 +117,7 @@ impl<G: Grade> Plan<'_, G> {
         }
     }
 
-    // The grade in a cell, or none where it is vacant. Refused where the cell lies off the plan.
+    /// The grade in a cell, or none where it is vacant. Refused where the cell lies off the plan.
     pub fn look(&self, row: u16, col: u16) -> Result<Option<G>, PlanRefusal>
         requires { ⌜ Sound (G·Grade .kind) (G·Grade .coded) (now self) ⌝ }
         ensures { λ r. ⌜ looked-up (G·Grade .coded) r ≡ answer (ledger (G·Grade .coded) (now (self .entry))) (looking row col) ⌝ }
@@ -131,7 +131,7 @@ impl<G: Grade> Plan<'_, G> {
         }
     }
 
-    // How many marks the plan has. What it shows is lawful, and is the box tree of its ledger's marks.
+    /// How many marks the plan has. What it shows is lawful, and is the box tree of its ledger's marks.
     pub fn marks(&self) -> u16
         requires { ⌜ Sound (G·Grade .kind) (G·Grade .coded) (now self) ⌝ }
         ensures counted { λ r. ⌜ r ≡ length (entries (ledger (G·Grade .coded) (now (self .entry)))) ⌝ }
@@ -141,7 +141,7 @@ impl<G: Grade> Plan<'_, G> {
         self.count
     }
 
-    // How many places the plan has.
+    /// How many places the plan has.
     pub fn places(&self) -> usize
         ensures { λ r. ⌜ r ≡ ledger (G·Grade .coded) (now (self .entry)) .places ⌝ }
     {
