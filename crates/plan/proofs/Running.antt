@@ -16,7 +16,7 @@ use Rattle.plan.specs.declared.run.Call.{Call}
 use Rattle.plan.specs.declared.run.Answer.{Answer}
 use Rattle.plan.specs.Plans.{Sound, ledger}
 use Rattle.plan.specs.Runs.{call-of, answer-of, carried, Ran}
-use Rattle.plan.proofs.Shapes.{entered, lawful}
+use Rattle.plan.proofs.Shapes.{recorded, lawful}
 
 drop-next : {A : Type 0} (l r : List A) (i : ℕ) → drop i l ≡ drop i r → drop (i + 1) l ≡ drop (i + 1) r
 drop-next l r i e = sym (drop-drop 1 i l) ∙ ap (drop 1) e ∙ drop-drop 1 i r
@@ -95,7 +95,7 @@ module _ {G : Type 0} (kind : Kind) (code : G → ℕ) (l : ledgers.Ledger) (cal
         beyond = r .beyond;
         lawful = lawful kind code _ _ _ (r .sound);
         planted =
-            entered kind code _ _ _ (r .sound) laws .planted
+            recorded kind code _ _ _ (r .sound) laws .planted
             ∙ ap (λ (x : ledgers.Ledger). plant kind (plan-square (x .level)) (ledgers.entries x)) (r .followed)
             ∙ ap (λ (x : ℕ). plant kind (plan-square x) (ledgers.entries (ledgers.after l (carried code calls (length before))))) (after-level l (carried code calls (length before)));
       }

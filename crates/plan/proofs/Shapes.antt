@@ -14,7 +14,7 @@ use Rattle.grade.specs.Kind.{Kind, Laws}
 use Rattle.treap.specs.Trees.{Square, Within, Tree, count, Meaning, Lawful}
 use Rattle.treap.specs.Sums.{one-if, held}
 use Rattle.treap.specs.Ledgers.{entries}
-use Rattle.treap.specs.Entries.{plan-square, Entered}
+use Rattle.treap.specs.Entries.{plan-square, Recorded}
 use Rattle.treap.proofs.Counts.{one-if-le, both-true}
 use Rattle.treap.proofs.Cells.{alone-lone}
 use Rattle.treap.proofs.Numbers.{single-apart}
@@ -52,12 +52,12 @@ module _ {G : Type 0} (kind : Kind) (code : G → ℕ) (h n : ℕ) (ps : List (P
         under = λ i low. s .numbered i ∙ below-count i n (length ps) (s .room) low;
       })
 
-  pub entered : Laws kind → Entered kind (plan-square h) (plan-tree code h n ps) (ledger-at code h n ps)
-  entered laws = ledger-tree kind laws h (length ps) (plan-tree code h n ps) (s .ordered) (s .alone)
+  pub recorded : Laws kind → Recorded kind (plan-square h) (plan-tree code h n ps) (ledger-at code h n ps)
+  recorded laws = ledger-tree kind laws h (length ps) (plan-tree code h n ps) (s .ordered) (s .alone)
 
   -- the ledger has as many marks as the plan
   pub marks-counted : Laws kind → length (entries (ledger-at code h n ps)) ≡ n
-  marks-counted laws = entered laws .counted ∙ s .counted
+  marks-counted laws = recorded laws .counted ∙ s .counted
 
   pub lawful : Lawful kind (record { square = plan-square h; ceiling = n; tree = plan-tree code h n ps })
   lawful =

@@ -57,9 +57,11 @@ abbrev pub ledger : {G : Type 0} → (G → ℕ) → Plan G → Ledger
 ledger code p = ledger-at code (p .h) (p .count) (now (p .places))
 
 -- the box tree that a plan shows
+abbrev pub shown-at : {G : Type 0} → (G → ℕ) → ℕ → ℕ → List (Place G) → Meaning
+shown-at code h n ps = record { square = plan-square h; ceiling = n; tree = plan-tree code h n ps }
+
 abbrev pub shown : {G : Type 0} → (G → ℕ) → Plan G → Meaning
-shown code p =
-    record { square = plan-square (p .h); ceiling = p .count; tree = plan-tree code (p .h) (p .count) (now (p .places)) }
+shown code p = shown-at code (p .h) (p .count) (now (p .places))
 
 -- the cell lies on a plan of the level
 abbrev pub on-plan : ℕ → ℕ → ℕ → Bool

@@ -3,9 +3,14 @@ ghost use mathlib.Core.Path.{_≡_};
 ghost use mathlib.Core.Bool.{true};
 ghost use Prim.Native.Nat.{ℕ, _^_, _≤_};
 ghost use lib.ListN.{length};
+ghost use Rattle.std.specs.declared.option.Option.the-variants.{None};
 ghost use Rattle.boxtree.specs.Marks.{spot-of, spots-of};
+ghost use Rattle.treap.specs.Trees.{Lawful, unnumbered};
+ghost use Rattle.treap.specs.Plants.{plant};
+ghost use Rattle.treap.specs.Entries.{plan-square};
+ghost use Rattle.treap.specs.Ledgers.{open-refusal, blank, entries};
 ghost use Rattle.plan.specs.Standing.{Found};
-ghost use Rattle.plan.specs.Plans.{root as root-at, plan-tree, Shape, on-plan, Entered, Struck, Regraded};
+ghost use Rattle.plan.specs.Plans.{root as root-at, plan-tree, Shape, shown-at, ledger-at, on-plan, Entered, Struck, Regraded};
 use crate::lift::lift;
 use crate::place::Place;
 use crate::place::PlaceClone;
@@ -58,6 +63,27 @@ pub(crate) fn mark_in<G: Grade>(
         row,
         col,
     )
+}
+
+// How many marks a plan has that is opened over the places: none.
+pub(crate) fn cleared<G: Grade>(places: &mut [Place<G>], h: u32) -> u16
+    requires { ⌜ open-refusal h (length (now places)) ≡ None ⌝ }
+    ensures shape { λ r. ⌜ Shape (G·Grade .kind) (G·Grade .coded) h r (now (places .exit)) ⌝ }
+    ensures blank { λ r. ⌜ ledger-at (G·Grade .coded) h r (now (places .exit)) ≡ blank h (length (now (places .entry))) ⌝ }
+    ensures same { λ r. ⌜ now (places .exit) ≡ now (places .entry) ⌝ }
+{
+    0
+}
+
+// How many marks the ledger of a plan has: as many as the plan. The tree that the places hold is lawful, and is the box tree
+// of those marks.
+pub(crate) fn tally<G: Grade>(places: &[Place<G>], h: u32, count: u16) -> usize
+    requires { ⌜ Shape (G·Grade .kind) (G·Grade .coded) h count (now places) ⌝ }
+    ensures counted { λ r. ⌜ r ≡ length (entries (ledger-at (G·Grade .coded) h count (now (places .entry)))) ⌝ }
+    ensures lawful { λ r. ⌜ Lawful (G·Grade .kind) (shown-at (G·Grade .coded) h count (now (places .entry))) ⌝ }
+    ensures planted { λ r. ⌜ unnumbered (plan-tree (G·Grade .coded) h count (now (places .entry))) ≡ plant (G·Grade .kind) (plan-square h) (entries (ledger-at (G·Grade .coded) h count (now (places .entry)))) ⌝ }
+{
+    count as usize
 }
 
 // Enters a mark, and answers how many there are then.

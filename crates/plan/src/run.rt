@@ -85,7 +85,7 @@ impl<G: Grade> Plan<'_, G> {
     }
 }
 
-// Carries out calls one after another, whichever of them are refused, and writes down what each is answered: as many calls
+/// Carries out calls one after another, whichever of them are refused, and writes down what each is answered: as many calls
 /// as there are answers to fill. Answers how many that are.
 pub fn carry_out<G: Grade>(
     plan: &mut Plan<'_, G>,

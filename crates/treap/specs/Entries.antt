@@ -2,7 +2,7 @@
 -- the tree is the one worked out from the marks of the ledger. So two such trees with equal ledgers differ in box numbers only.
 --
 --   plan-square h        the square of a plan of the level h, whose first cell is (0, 0)
---   Entered k s t l      the ledger l has the marks of the tree t of the square s
+--   Recorded k s t l      the ledger l has the marks of the tree t of the square s
 use mathlib.Core.Path.{_≡_}
 use Prim.Native.Nat.{ℕ}
 use lib.ListN.{length}
@@ -23,7 +23,7 @@ plan-square level = record { level = level; top = 0; left = 0 }
 --   listed     each mark of the tree is in the ledger
 --   counted    there are as many marks as boxes
 --   planted    the tree is the one worked out from the marks, up to the numbers of the boxes
-pub record Entered (k : Kind) (s : Square) (t : Tree) (l : Ledger) : Type 0 where
+pub record Recorded (k : Kind) (s : Square) (t : Tree) (l : Ledger) : Type 0 where
   pub graded : (x : Spot) → Shows t x → l .grade (x .row) (x .col) ≡ Some (x .grade)
   pub marked : (row col g : ℕ) → l .grade row col ≡ Some g → Shows t (record { row = row; col = col; grade = g })
   pub shown : (x : Spot) → In (entries l) x → Shows t x
@@ -39,7 +39,7 @@ Ledger-tree =
     → (level places : ℕ) (t : Tree)
     → Ordered k (plan-square level) t
     → Alone t
-    → Entered k (plan-square level) t (ledger-of level places t)
+    → Recorded k (plan-square level) t (ledger-of level places t)
 
 -- two lawful trees of one square have the same grade in every cell exactly if they differ in box numbers only
 abbrev pub Same-marks-same-tree : Type 0

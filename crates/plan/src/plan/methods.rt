@@ -12,10 +12,12 @@ ghost use Rattle.treap.specs.Ledgers.{open-refusal, blank, entries, answer, nex
 ghost use Rattle.plan.specs.Refusals.{numbered, done-or, graded-or, looked-up};
 ghost use Rattle.plan.specs.Plans.{Sound, ledger, shown, Kept};
 use crate::change::add;
+use crate::change::cleared;
 use crate::change::mark_in;
 use crate::change::on_plan_of;
 use crate::change::replace;
 use crate::change::take;
+use crate::change::tally;
 use crate::place::Place;
 use crate::plan::Plan;
 use crate::refusal::PlanRefusal;
@@ -43,11 +45,8 @@ impl<'a, G: Grade> Plan<'a, G> {
         ensures sound { λ r. ⌜ Sound (G·Grade .kind) (G·Grade .coded) r ⌝ }
         ensures blank { λ r. ⌜ ledger (G·Grade .coded) r ≡ blank h (length (now (places .entry))) ⌝ }
     {
-        Plan {
-            h,
-            count: 0,
-            places,
-        }
+        let count = cleared(places, h);
+        Plan { h, count, places }
     }
 }
 
@@ -58,8 +57,9 @@ impl<G: Grade> Plan<'_, G> {
         ensures sound { λ _. ⌜ Sound (G·Grade .kind) (G·Grade .coded) (now (self .exit)) ⌝ }
         ensures blank { λ _. ⌜ ledger (G·Grade .coded) (now (self .exit)) ≡ blank h (length (now (now (self .entry) .places))) ⌝ }
     {
+        let count = cleared(self.places, h);
         self.h = h;
-        self.count = 0;
+        self.count = count;
     }
 
     /// Enters a mark. Refused where its cell lies off the plan or has a mark, or where there are as many marks as places.
@@ -132,13 +132,13 @@ impl<G: Grade> Plan<'_, G> {
     }
 
     /// How many marks the plan has. What it shows is lawful, and is the box tree of its ledger's marks.
-    pub fn marks(&self) -> u16
+    pub fn marks(&self) -> usize
         requires { ⌜ Sound (G·Grade .kind) (G·Grade .coded) (now self) ⌝ }
         ensures counted { λ r. ⌜ r ≡ length (entries (ledger (G·Grade .coded) (now (self .entry)))) ⌝ }
         ensures lawful { λ r. ⌜ Lawful (G·Grade .kind) (shown (G·Grade .coded) (now (self .entry))) ⌝ }
         ensures planted { λ r. ⌜ unnumbered (shown (G·Grade .coded) (now (self .entry)) .tree) ≡ plant (G·Grade .kind) (shown (G·Grade .coded) (now (self .entry)) .square) (entries (ledger (G·Grade .coded) (now (self .entry)))) ⌝ }
     {
-        self.count
+        tally(self.places, self.h, self.count)
     }
 
     /// How many places the plan has.
