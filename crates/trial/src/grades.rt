@@ -1,6 +1,5 @@
 //! Grades: monuments and points.
 use grade::Grade;
-use grade::monument::BadGrade;
 use grade::monument::Monument;
 use grade::monument::MonumentEq;
 use grade::monument::MonumentGrade;
@@ -115,7 +114,7 @@ fn each_kind_has_its_number() -> Result<(), Fail> {
     check_eq(Monument::kind_number(), 2)
 }
 
-// What the other code, the order, the step and the way back of two grades are.
+// The grade of so many points.
 fn points(value: u16) -> Points {
     Points { value }
 }

@@ -1,8 +1,10 @@
-//! Trials of grades and plans: what a user of them sees.
+//! Trials of grades, plans and the lines of a book: what a user of them sees.
 #[cfg(test)]
 mod answers;
 #[cfg(test)]
 mod grades;
+#[cfg(test)]
+mod lines;
 #[cfg(test)]
 mod places;
 #[cfg(test)]
