@@ -9,4 +9,6 @@ pub use command::Unusable;
 pub use grammar::parse;
 pub use lines::first_line;
 pub use reply::Reply;
+pub use reply::ReplyDebug;
 pub use reply::ReplyDisplay;
+pub use reply::ReplyPartialEq;

@@ -2,6 +2,8 @@
 ghost use Rattle.grade.specs.Kinds.{points};
 ghost use Rattle.plan.specs.Plans.{Sound};
 use book::Reply;
+use book::ReplyDebug;
+use book::ReplyPartialEq;
 use book::first_line;
 use grade::points::Points;
 use grade::points::PointsGrade;
