@@ -6,7 +6,7 @@ use lib.Dec.{lit≤}
 use native.Mathlib.Omega.{arith}
 use Rattle.std.proofs.shelf.Ways.{tells}
 use Rattle.std.specs.declared.option.Option.the-variants.{Some, None}
-use Rattle.grade.specs.Kind.{Kind, Laws}
+use Rattle.grade.specs.Kind.{Laws}
 use Rattle.grade.specs.Kinds.{monument, monument-on}
 
 range : (a : ℕ) → monument .is-code a ≡ true → (1 ≤ a / 512) × (a / 512 ≤ 5) × (a % 512 ≤ 399)

@@ -2,17 +2,16 @@
 use mathlib.Core.Path.{_≡_, refl, sym, _∙_, ap, subst}
 use mathlib.Core.Bool.{Bool, true, false, cond, _||_, not}
 use mathlib.Core.List.{List}
-use Prim.Native.Nat.{ℕ, _≤_, _<_}
+use Prim.Native.Nat.{ℕ}
 use native.Mathlib.Omega.{arith}
 use lib.Dec.{ltb, eqb}
 use lib.ListN.{length}
 use borrow.Author.Tests.{ltb-false, le-ltb}
-use Rattle.std.specs.declared.option.Option.{Option}
 use Rattle.std.specs.declared.option.Option.the-variants.{None, Some}
 use Rattle.grade.specs.Kind.{Kind}
 use Rattle.treap.specs.Spots.{Spot}
 use Rattle.treap.specs.Sums.{one-if, grade-in}
-use Rattle.treap.specs.Ledgers.{Ledger, Call, look, graded, vacant, refused, blank, open-refusal, answer, answer-as, next, next-as}
+use Rattle.treap.specs.Ledgers.{Call, look, graded, vacant, refused, open-refusal, answer, answer-as, next, next-as}
 use Rattle.treap.proofs.Cells.{shown-graded, free-ungraded}
 use Rattle.plan.specs.declared.place.Place.{Place}
 use Rattle.plan.specs.declared.refusal.PlanRefusal.{PlanRefusal}

@@ -8,8 +8,8 @@ use Rattle.std.specs.declared.option.Option.{Option}
 use Rattle.std.specs.declared.option.Option.the-variants.{None, Some}
 use Rattle.grade.specs.Kind.{Kind}
 use Rattle.treap.specs.Spots.{Spot}
-use Rattle.treap.specs.Trees.{Quadrant, tl, tr, bl, br, Square, quadrant, Tree, none, box, pick, Ordered}
-use Rattle.treap.specs.Sums.{one-if, held, number-sum}
+use Rattle.treap.specs.Trees.{Quadrant, tl, tr, bl, br, Square, quadrant, Tree, box, pick}
+use Rattle.treap.specs.Sums.{one-if, held}
 use Rattle.treap.proofs.Shown.{lawful-quadrant, halves}
 use Rattle.treap.proofs.Counts.{one-is}
 use Rattle.treap.proofs.Hanging.{hung, pick-numbers, alone-quadrant}

@@ -1,26 +1,25 @@
 -- Entering a mark into a plan: when it is refused, and what the plan is afterwards.
 use mathlib.Core.Path.{_≡_, refl, sym, _∙_, ap, subst}
-use mathlib.Core.Bool.{Bool, true, false, cond, not}
-use mathlib.Core.List.{List, [], _∷_}
+use mathlib.Core.Bool.{Bool, true, false}
+use mathlib.Core.List.{List}
 use Prim.Native.Nat.{ℕ, zero, suc, _+_, _≤_, _<_}
 use native.Mathlib.Omega.{arith}
-use lib.Dec.{leb, ltb, eqb}
+use lib.Dec.{eqb}
 use lib.ListN.{length}
 use borrow.Author.Tests.{le-leb, lt-leb, le-ltb}
-use Rattle.std.specs.Options.{isSome}
 use Rattle.std.specs.declared.option.Option.{Option}
 use Rattle.std.specs.declared.option.Option.the-variants.{None, Some}
 use Rattle.grade.specs.Kind.{Kind, Laws}
 use Rattle.treap.specs.Spots.{Spot, Fair}
-use Rattle.treap.specs.Trees.{Tree, count}
-use Rattle.treap.specs.Sums.{one-if, mark-sum, at-cell, in-cell, held, Alone, grade-in}
-use Rattle.treap.specs.Ledgers.{Ledger, enter, Check, first, refusal, off, taken, full, entries, changed}
+use Rattle.treap.specs.Trees.{Tree}
+use Rattle.treap.specs.Sums.{one-if, at-cell, in-cell, Alone, grade-in}
+use Rattle.treap.specs.Ledgers.{Ledger, enter, refusal, full, entries, changed}
 use Rattle.treap.specs.Entries.{plan-square}
 use Rattle.treap.specs.Changes.{Gains}
 use Rattle.treap.proofs.Counts.{at-cell-is}
 use Rattle.treap.proofs.Cells.{shown-graded, free-ungraded, gained, count-sum}
 use Rattle.plan.specs.declared.place.Place.{Place}
-use Rattle.plan.specs.Places.{Cell, cells}
+use Rattle.plan.specs.Places.{cells}
 use Rattle.plan.specs.Standing.{tree-in, Found, Sinks, Sunk, place-or}
 use Rattle.plan.specs.Plans.{root, plan-tree, Shape, ledger-at, on-plan, Done}
 use Rattle.plan.proofs.Shapes.{inside-whole, stands-whole, marks-counted, one-more}

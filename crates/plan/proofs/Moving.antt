@@ -10,7 +10,7 @@ use Rattle.std.specs.declared.option.Option.{Option}
 use Rattle.std.specs.declared.option.Option.the-variants.{None, Some}
 use Rattle.grade.specs.Kind.{Kind, Laws}
 use Rattle.treap.specs.Spots.{Spot}
-use Rattle.treap.specs.Trees.{Quadrant, index, tl, tr, bl, br, Square, Within, quadrant, Tree, none, box, pick, Shows, Hangs, Ordered}
+use Rattle.treap.specs.Trees.{Quadrant, index, tl, tr, bl, br, Square, Within, quadrant, Tree, box, pick, Shows, Hangs, Ordered}
 use Rattle.treap.specs.Sums.{one-if, held}
 use Rattle.treap.specs.Changes.{Renumbers}
 use Rattle.treap.proofs.Shown.{hangs, lawful-quadrant, shown-holds, one-quadrant, below}

@@ -1,18 +1,17 @@
 -- Regrading a mark: once it is struck its cell is vacant and a place is free, so that it can be entered anew.
-use mathlib.Core.Path.{_≡_, refl, sym, _∙_, ap, subst}
+use mathlib.Core.Path.{_≡_, refl, _∙_, ap, subst}
 use mathlib.Core.Bool.{Bool, true, false, cond, not, _&&_}
 use mathlib.Core.List.{List}
-use Prim.Native.Nat.{ℕ, suc, _-_, _^_, _≤_, _<_}
+use Prim.Native.Nat.{ℕ, suc, _-_, _≤_}
 use native.Mathlib.Omega.{arith}
-use lib.Dec.{leb, ltb, eqb}
+use lib.Dec.{eqb}
 use lib.ListN.{length}
 use borrow.Author.Tests.{lt-leb, eq-eqb}
-use Rattle.std.specs.Options.{isSome}
 use Rattle.std.specs.declared.option.Option.{Option}
 use Rattle.std.specs.declared.option.Option.the-variants.{None, Some}
 use Rattle.grade.specs.Kind.{Kind, Laws}
 use Rattle.treap.specs.Spots.{Spot}
-use Rattle.treap.specs.Ledgers.{Ledger, enter, regrade, strike, refusal, off, taken, full, entries, set-cell, changed}
+use Rattle.treap.specs.Ledgers.{Ledger, enter, regrade, strike, refusal, off, taken, full, entries, set-cell}
 use Rattle.plan.specs.declared.place.Place.{Place}
 use Rattle.plan.specs.Plans.{Shape, ledger-at, Done}
 use Rattle.plan.proofs.Shapes.{marks-counted}

@@ -1,18 +1,17 @@
 -- What the shape of a plan gives: its tree stands in its places, it is lawful, and its ledger has its marks.
 use mathlib.Core.Path.{_≡_, refl, sym, _∙_, ap, subst}
-use mathlib.Core.Bool.{Bool, true, false, _&&_}
+use mathlib.Core.Bool.{Bool, true, false}
 use mathlib.Core.List.{List}
-use Prim.Native.Nat.{ℕ, zero, suc, _+_, _^_, _≤_, _<_}
+use Prim.Native.Nat.{ℕ, suc, _+_, _^_, _≤_, _<_}
 use native.Mathlib.Omega.{arith}
 use lib.Dec.{ltb, eqb}
 use lib.ListN.{length}
 use lib.Pow.{pow-mono}
 use borrow.Author.Tests.{ltb-true, ltb-false, lt-ltb, le-ltb, eqb-true, eqb-false}
 use Rattle.std.specs.declared.option.Option.{Option}
-use Rattle.std.specs.declared.option.Option.the-variants.{None, Some}
 use Rattle.grade.specs.Kind.{Kind, Laws}
-use Rattle.treap.specs.Trees.{Square, Within, Tree, count, Meaning, Lawful}
-use Rattle.treap.specs.Sums.{one-if, held}
+use Rattle.treap.specs.Trees.{Within, Lawful}
+use Rattle.treap.specs.Sums.{one-if}
 use Rattle.treap.specs.Ledgers.{entries}
 use Rattle.treap.specs.Entries.{plan-square, Recorded}
 use Rattle.treap.proofs.Counts.{one-if-le, both-true}

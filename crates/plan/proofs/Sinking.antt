@@ -1,6 +1,6 @@
 -- A mark that is entered stays in the root's box or goes on into a quadrant.
 use mathlib.Core.Path.{_≡_, refl, sym, _∙_, ap, subst}
-use Prim.Native.Nat.{ℕ, zero, suc, _+_, _≤_, _<_}
+use Prim.Native.Nat.{ℕ, _+_, _≤_, _<_}
 use native.Mathlib.Omega.{arith}
 use lib.Dec.{eqb}
 use Rattle.std.specs.declared.option.Option.{Option}
@@ -15,7 +15,7 @@ use Rattle.treap.proofs.Hanging.{hung}
 use Rattle.treap.proofs.Changes.{room-below, down-inside, free-below, sink-below, sink-first}
 use Rattle.plan.specs.Squares.{Fits}
 use Rattle.plan.specs.Places.{Cell, Below, leaf-of, link, relink, tree-at}
-use Rattle.plan.specs.Standing.{tree-in, Stands, Sinks, Sunk, place-or}
+use Rattle.plan.specs.Standing.{tree-in, Sinks, Sunk, place-or}
 use Rattle.plan.proofs.Descent.{down-fits, down-is, down-link, down-stands, down-held, down-depth, down-below, graft}
 
 -- into an empty tree

@@ -1,30 +1,29 @@
 -- Striking a mark from a plan: when it is refused, and what the plan is afterwards.
 use mathlib.Core.Path.{_≡_, refl, sym, _∙_, ap, subst}
 use mathlib.Core.Bool.{Bool, true, false, cond, not}
-use mathlib.Core.List.{List, [], _∷_}
+use mathlib.Core.List.{List}
 use mathlib.Core.Logic.{_⊎_, inl, inr}
 use Prim.Native.Nat.{ℕ, zero, suc, _+_, _-_, _≤_, _<_}
 use native.Mathlib.Omega.{arith}
-use lib.Dec.{leb, ltb, eqb}
+use lib.Dec.{ltb, eqb}
 use lib.ListN.{length}
 use borrow.Author.Tests.{ltb-true, lt-ltb, le-ltb}
-use Rattle.std.specs.Options.{isSome}
 use Rattle.std.specs.declared.option.Option.{Option}
 use Rattle.std.specs.declared.option.Option.the-variants.{None, Some}
-use Rattle.grade.specs.Kind.{Kind, Laws}
+use Rattle.grade.specs.Kind.{Kind}
 use Rattle.treap.specs.Spots.{Spot}
-use Rattle.treap.specs.Trees.{Tree, none, count, Ordered}
-use Rattle.treap.specs.Sums.{one-if, mark-sum, at-cell, in-cell, held, Alone, grade-in}
+use Rattle.treap.specs.Trees.{Tree, Ordered}
+use Rattle.treap.specs.Sums.{one-if, mark-sum, at-cell, held, Alone, grade-in}
 use Rattle.treap.specs.Ledgers.{Ledger, strike, graded, accepted, refusal, changed}
 use Rattle.treap.specs.Entries.{plan-square}
 use Rattle.treap.specs.Changes.{Loses}
 use Rattle.treap.proofs.Counts.{one-is, none-is, one-if-le}
 use Rattle.treap.proofs.Cells.{shown-graded, free-ungraded, lost, count-sum}
 use Rattle.plan.specs.declared.place.Place.{Place}
-use Rattle.plan.specs.Places.{Cell, cells, tree-at}
-use Rattle.plan.specs.Standing.{tree-in, Found, Stands, Lifted, Moves, Moved}
+use Rattle.plan.specs.Places.{cells}
+use Rattle.plan.specs.Standing.{tree-in, Found, Lifted, Moves, Moved}
 use Rattle.plan.specs.Plans.{root, plan-tree, Shape, ledger-at, on-plan, Done}
-use Rattle.plan.proofs.Shapes.{stands-whole, one-more}
+use Rattle.plan.proofs.Shapes.{one-more}
 
 some-one : (n : ℕ) (x : Option ℕ) → 1 ≤ n → x ≡ root n → x ≡ Some 0
 some-one zero x h e = absurd (omega arith)

@@ -9,7 +9,7 @@
 use mathlib.Core.Path.{_≡_}
 use mathlib.Core.Bool.{Bool, _&&_}
 use mathlib.Core.List.{List}
-use Prim.Native.Nat.{ℕ, zero, suc, _-_, _^_, _≤_, _<_}
+use Prim.Native.Nat.{ℕ, zero, suc, _-_, _^_, _≤_}
 use lib.Dec.{ltb}
 use lib.ListN.{length}
 use denote.Ref.{now}
@@ -22,7 +22,7 @@ use Rattle.treap.specs.Spots.{Spot}
 use Rattle.treap.specs.Trees.{Tree, count, Ordered, Meaning}
 use Rattle.treap.specs.Sums.{one-if, held, Alone, ledger-of}
 use Rattle.treap.specs.Entries.{plan-square}
-use Rattle.treap.specs.Ledgers.{Ledger, Call, enter, regrade, strike, Answer, graded, refusal, accepted, changed}
+use Rattle.treap.specs.Ledgers.{Ledger, Call, enter, regrade, strike, graded, refusal, accepted, changed}
 use Rattle.plan.specs.declared.place.Place.{Place}
 use Rattle.plan.specs.declared.plan.Plan.{Plan}
 use Rattle.plan.specs.declared.refusal.PlanRefusal.{PlanRefusal}

@@ -2,7 +2,7 @@
 --
 --   square-of, quadrant-of   the square, the quadrant
 --   Fits s                   the square lies within the largest plan
-use Prim.Native.Nat.{ℕ, _+_, _^_, _≤_}
+use Prim.Native.Nat.{_+_, _^_, _≤_}
 use Rattle.treap.specs.Trees as tree
 use Rattle.plan.specs.declared.square.Square.{Square}
 use Rattle.plan.specs.declared.square.Quadrant.{Quadrant}

@@ -1,15 +1,15 @@
 -- How a change in one quadrant makes the change of the whole tree: entering, striking and renumbering go down one quadrant
 -- at a time.
-use mathlib.Core.Path.{_≡_, refl, sym, _∙_, ap, subst}
+use mathlib.Core.Path.{_≡_, refl, sym, ap, subst}
 use mathlib.Core.Logic.{_⊎_, inl, inr}
-use Prim.Native.Nat.{ℕ, zero, suc, _+_, _≤_, _<_}
+use Prim.Native.Nat.{ℕ, zero, suc, _+_, _<_}
 use native.Mathlib.Omega.{arith}
 use Rattle.grade.specs.Kind.{Kind, Laws}
 use Rattle.treap.specs.Spots.{Spot, Outranks}
-use Rattle.treap.specs.Trees.{Quadrant, index, tl, tr, bl, br, Square, Within, quadrant, Tree, none, box, pick, Shows, Holds, Hangs, Ordered}
-use Rattle.treap.specs.Sums.{one-if, mark-sum, at-cell, in-cell, Alone}
-use Rattle.treap.specs.Changes.{More, Gains, Loses, Renumbers, Ranked}
-use Rattle.treap.proofs.Ranks.{irrefl, trans, tri}
+use Rattle.treap.specs.Trees.{Quadrant, index, Square, Within, quadrant, Tree, none, box, pick, Shows, Holds, Hangs, Ordered}
+use Rattle.treap.specs.Sums.{one-if, at-cell, in-cell, Alone}
+use Rattle.treap.specs.Changes.{Gains, Loses, Renumbers, Ranked}
+use Rattle.treap.proofs.Ranks.{trans, tri}
 use Rattle.treap.proofs.Shown.{hangs, lawful-quadrant, root-over, shown-holds, one-quadrant, below, split}
 use Rattle.treap.proofs.Counts.{is-at-cell, shows-has, has-shows, same}
 use Rattle.treap.proofs.Hanging.{hung, hung-numbers, hung-marks, pick-marks, hung-ordered, hang, has-quadrants, one-cell, shows-more, shows-kept, gone-is-gone}

@@ -1,4 +1,4 @@
--- The sum over the cells of a grid, and how many marks a ledger has there. Assumes nothing.
+-- The sum over the cells of a grid, and how many marks a ledger has there.
 use mathlib.Core.Path.{_≡_, refl, sym, _∙_}
 use mathlib.Core.Bool.{Bool, true, _&&_}
 use mathlib.Core.Logic.{inl, inr}

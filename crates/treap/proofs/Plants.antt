@@ -1,4 +1,4 @@
--- The tree worked out from marks is lawful and shows them. Assumes nothing.
+-- The tree worked out from marks is lawful and shows them.
 use mathlib.Core.Path.{_≡_, refl, sym, subst, ap, _∙_}
 use mathlib.Core.Bool.{Bool, true, false, cond, _&&_}
 use mathlib.Core.Logic.{_⊎_, inl, inr}

@@ -1,34 +1,15 @@
 -- What a lawful tree shows: marks of the kind, in the square, below the root's; and one tree for one set of marks.
--- Assumes nothing.
-use mathlib.Core.Path.{_≡_, refl, sym, subst, ap, _∙_}
-use mathlib.Core.Logic.{_⊎_, inl, inr, ⊎-elim}
-use Prim.Native.Nat.{ℕ, suc, zero, _+_, _^_, _<_, _≤_, pred}
+--
+use mathlib.Core.Path.{_≡_, refl, sym, subst, _∙_}
+use mathlib.Core.Logic.{_⊎_, inl, inr}
+use Prim.Native.Nat.{ℕ, suc, zero, _+_, _^_, _<_, pred}
 use native.Mathlib.Omega.{arith}
 use Rattle.grade.specs.Kind.{Kind, Laws}
-use Rattle.treap.specs.Spots.{Spot, Fair, Outranks}
-use Rattle.treap.specs.Trees.{
-  Quadrant,
-  tl,
-  tr,
-  bl,
-  br,
-  Square,
-  Within,
-  quadrant,
-  Tree,
-  none,
-  box,
-  pick,
-  Shows,
-  Holds,
-  Hangs,
-  Ordered,
-  unnumbered,
-  One-tree,
-}
-use Rattle.treap.proofs.Ranks.{irrefl, irrefl-eq, trans, asym}
+use Rattle.treap.specs.Spots.{Spot, Outranks}
+use Rattle.treap.specs.Trees.{Quadrant, tl, tr, bl, br, Square, Within, quadrant, Tree, none, box, pick, Shows, Holds, Hangs, Ordered, One-tree}
+use Rattle.treap.proofs.Ranks.{irrefl-eq, trans, asym}
 
--- the root's mark, if there is a root
+-- what a quadrant shows its box shows
 pub below : (a b c d : Tree) (i : ℕ) (m x : Spot) (q : Quadrant) → Shows (pick a b c d q) x → Shows (box i m a b c d) x
 below a b c d i m x tl h = inr (inl h)
 below a b c d i m x tr h = inr (inr (inl h))
@@ -53,13 +34,6 @@ lawful-quadrant k s i m a b c d h tl = h .2 .0
 lawful-quadrant k s i m a b c d h tr = h .2 .1
 lawful-quadrant k s i m a b c d h bl = h .2 .2
 lawful-quadrant k s i m a b c d h br = h .2 .3
-
--- one induction for the four quadrants
-pub by-quadrant : (P : Quadrant → Type 0) → P tl → P tr → P bl → P br → (q : Quadrant) → P q
-by-quadrant P a b c d tl = a
-by-quadrant P a b c d tr = b
-by-quadrant P a b c d bl = c
-by-quadrant P a b c d br = d
 
 pub halves : (h : ℕ) → 0 < h → 2 ^ h ≡ 2 ^ pred h + 2 ^ pred h
 halves zero h = omega arith

@@ -1,12 +1,21 @@
--- Squares, box trees, and what a lawful box tree is. Assumes nothing.
+-- Squares, box trees, and what a lawful box tree is. A box tree is worked out from the marks of a square: a box holds the best
+-- mark of its square, and the quadrants divide the others among them.
+--
+--   Square              a square of side 2 ^ level, whose first cell is (top, left)
+--   Within s row col    the cell lies in the square
+--   quadrant q s        a quadrant of the square
+--   Tree                no box, or a box: its number, its mark, and its four quadrants
+--   Shows t x           the tree holds the mark x
+--   Ordered k s t       each mark is of the kind and lies in its box's square, boxes stand in quadrants of the square above, and a
+--                       box's mark outranks those right below
+--   Lone t              no two marks stand in one cell
+--   Meaning             what a box tree shows: its square, its boxes, and a number that the count of these does not pass
+--   Lawful k m          what holds of every box tree
+--   unnumbered t        the tree with every box number 0
 use mathlib.Core.Path.{_≡_}
-use mathlib.Core.Bool.{cond}
 use mathlib.Core.Logic.{_⊎_}
 use mathlib.Core.List.{List, [], _∷_, _++_}
-use Prim.Native.Nat.{ℕ, zero, suc, _+_, _^_, _≤_, _<_, pred}
-use lib.Dec.{eqb}
-use Rattle.std.specs.declared.option.Option.{Option}
-use Rattle.std.specs.declared.option.Option.the-variants.{Some, None}
+use Prim.Native.Nat.{ℕ, _+_, _^_, _≤_, _<_, pred}
 use Rattle.grade.specs.Kind.{Kind, Laws}
 use Rattle.treap.specs.Spots.{Spot, Fair, Outranks}
 
@@ -23,13 +32,11 @@ index tr = 1
 index bl = 2
 index br = 3
 
--- a square of side 2 ^ level, whose first cell is (top, left)
 pub record Square : Type 0 where
   pub level : ℕ
   pub top : ℕ
   pub left : ℕ
 
--- the cell (row, col) lies in the square
 pub record Within (s : Square) (row col : ℕ) : Type 0 where
   pub not-above : s .top ≤ row
   pub not-below : row < s .top + 2 ^ s .level
@@ -42,40 +49,16 @@ quadrant tr s = record { level = pred (s .level); top = s .top; left = s .left +
 quadrant bl s = record { level = pred (s .level); top = s .top + 2 ^ pred (s .level); left = s .left }
 quadrant br s = record { level = pred (s .level); top = s .top + 2 ^ pred (s .level); left = s .left + 2 ^ pred (s .level) }
 
--- no box, or a box: its number, its mark, and its four quadrants
 pub data Tree : Type 0 where
   none : Tree
   box : (number : ℕ) (mark : Spot) (a b c d : Tree) → Tree
 
+-- one of four trees
 abbrev pub pick : Tree → Tree → Tree → Tree → Quadrant → Tree
 pick a b c d tl = a
 pick a b c d tr = b
 pick a b c d bl = c
 pick a b c d br = d
-
--- the number of the box at the root
-abbrev pub number : Tree → Option ℕ
-number none = None
-number (box i m a b c d) = Some i
-
--- the first of two trees that has a box
-abbrev pub or : Tree → Tree → Tree
-or none u = u
-or (box i m a b c d) u = box i m a b c d
-
--- what stands in the quadrant of the number q: 0 top left, 1 top right, 2 bottom left, 3 bottom right
-abbrev pub sub : ℕ → Tree → Tree
-sub q none = none
-sub zero (box i m a b c d) = a
-sub (suc zero) (box i m a b c d) = b
-sub (suc (suc zero)) (box i m a b c d) = c
-sub (suc (suc (suc zero))) (box i m a b c d) = d
-sub (suc (suc (suc (suc q)))) (box i m a b c d) = none
-
--- the box with the number n and all below it
-abbrev pub find : ℕ → Tree → Tree
-find n none = none
-find n (box i m a b c d) = cond (eqb n i) (box i m a b c d) (or (find n a) (or (find n b) (or (find n c) (find n d))))
 
 -- how many boxes there are
 abbrev pub count : Tree → ℕ
@@ -87,14 +70,9 @@ abbrev pub numbers : Tree → List ℕ
 numbers none = []
 numbers (box i m a b c d) = i ∷ (numbers a ++ (numbers b ++ (numbers c ++ numbers d)))
 
--- the tree holds the mark
 abbrev pub Shows : Tree → Spot → Type 0
 Shows none x = ⊥
 Shows (box i m a b c d) x = (x ≡ m) ⊎ Shows a x ⊎ Shows b x ⊎ Shows c x ⊎ Shows d x
-
-abbrev pub marks : Tree → List Spot
-marks none = []
-marks (box i m a b c d) = m ∷ (marks a ++ (marks b ++ (marks c ++ marks d)))
 
 -- a box holds a mark of the kind that lies in its square
 pub record Holds (k : Kind) (s : Square) (m : Spot) : Type 0 where
@@ -106,7 +84,6 @@ abbrev pub Hangs : Kind → Square → Spot → Tree → Type 0
 Hangs k s m none = Unit {0}
 Hangs k s m (box i x a b c d) = (0 < s .level) × Outranks k m x
 
--- each mark is of the kind and lies in its box's square, quadrants stand in quadrants, and a box's mark outranks those right below
 abbrev pub Ordered : Kind → Square → Tree → Type 0
 Ordered k s none = Unit {0}
 Ordered k s (box i m a b c d) =
@@ -127,11 +104,9 @@ abbrev pub Apart : {A : Type 0} → List A → Type 0
 Apart [] = Unit {0}
 Apart (x ∷ l) = (In l x → ⊥) × Apart l
 
--- no two marks stand in one cell
 abbrev pub Lone : Tree → Type 0
 Lone t = (x y : Spot) → Shows t x → Shows t y → x .row ≡ y .row → x .col ≡ y .col → x ≡ y
 
--- what a box tree shows: its square, its boxes, and a number that these do not pass
 pub record Meaning : Type 0 where
   pub square : Square
   pub ceiling : ℕ
@@ -145,7 +120,6 @@ pub record Lawful (k : Kind) (m : Meaning) : Type 0 where
   pub lone : Lone (m .tree)
   pub apart : Apart (numbers (m .tree))
 
--- the tree with every box number 0
 abbrev pub unnumbered : Tree → Tree
 unnumbered none = none
 unnumbered (box i m a b c d) = box 0 m (unnumbered a) (unnumbered b) (unnumbered c) (unnumbered d)

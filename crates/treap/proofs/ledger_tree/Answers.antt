@@ -1,4 +1,3 @@
--- Assumes nothing.
 use Rattle.treap.proofs.Entries.{ledger-tree}
 use Rattle.treap.proofs.ledger_tree.Needs as need
 

@@ -1,4 +1,3 @@
--- Assumes nothing.
 use Rattle.treap.proofs.Entries.{same-marks-same-tree}
 use Rattle.treap.proofs.same_marks_same_tree.Needs as need
 

@@ -1,4 +1,3 @@
--- Assumes nothing.
 use mathlib.Core.Path.{refl}
 use Rattle.treap.proofs.worked_examples.Needs as need
 

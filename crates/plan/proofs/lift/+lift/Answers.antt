@@ -5,7 +5,7 @@ use Rattle.boxtree.specs.Marks.{spot-of}
 use Rattle.treap.specs.Trees.{Shows}
 use Rattle.plan.specs.Squares.{square-of, quadrant-of}
 use Rattle.plan.specs.Places.{cells, cell-of}
-use Rattle.plan.specs.Standing.{tree-in, Stands}
+use Rattle.plan.specs.Standing.{tree-in}
 use Rattle.plan.proofs.Descent.{in-places, at-place, part-falls, below-limit}
 use Rattle.plan.proofs.Lifting.{lift-here, lift-deep, lift-inside, lift-asks, lift-link, lift-does}
 use Rattle.plan.proofs.lift.+lift.Needs as need

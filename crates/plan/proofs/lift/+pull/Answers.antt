@@ -1,10 +1,8 @@
 use mathlib.Core.Path.{_∙_}
 use native.Mathlib.Omega.{arith}
-use Rattle.boxtree.specs.Marks.{spot-of}
-use Rattle.plan.specs.declared.lift.Child.{Child}
 use Rattle.plan.specs.Squares.{square-of, quadrant-of}
 use Rattle.plan.specs.Places.{cells, cell-of}
-use Rattle.plan.specs.Children.{Choice, choice-of}
+use Rattle.plan.specs.Children.{choice-of}
 use Rattle.plan.proofs.Descent.{root-below, part-falls, below-limit}
 use Rattle.plan.proofs.Lifting.{linked, pull-none, pull-deep, pull-asks, pull-link, pull-does}
 use Rattle.plan.proofs.lift.+pull.Needs as need

@@ -1,8 +1,7 @@
-use mathlib.Core.Path.{_∙_, sym, ap, subst}
+use mathlib.Core.Path.{_∙_, ap}
 use Prim.Native.Nat.{ℕ}
 use native.Mathlib.Omega.{arith}
 use Rattle.std.specs.declared.option.Option.{Option}
-use Rattle.boxtree.specs.Marks.{spot-of}
 use Rattle.treap.specs.Sums.{held}
 use Rattle.plan.specs.Squares.{square-of, quadrant-of}
 use Rattle.plan.specs.Places.{cells, cell-of}
