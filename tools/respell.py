@@ -36,6 +36,11 @@ def own_crates():
     return {line.split(":")[0].split()[0] for line in open("crates.txt", encoding="utf-8") if line.strip() and not line.startswith("#")}
 
 
+def deep(path):
+    """Whether the file answers the goals of a function."""
+    return re.match(r"crates/\w+/proofs/.*/", path) is not None
+
+
 def new_name(old):
     parts = old.split("-")
     if re.match(r"[A-Z]", old):
@@ -83,7 +88,7 @@ def names():
                 seen[t].add(path)
     respelled, source = {}, functions()
     for n in declared:
-        if "-" in n.strip("-") and re.search(r"[A-Za-z]", n) and "◌" not in n and not MADE.match(n) and n[0] not in "+-":
+        if "-" in n.strip("-") and re.search(r"[A-Za-z]", n) and "◌" not in n and n[0] not in "+-" and not (MADE.match(n) and all(deep(p) for p in declared[n])):
             new = new_name(n)
             # a word that would have the name of a function where it is used
             if any(new in source[path.split(os.sep)[1]] for path in seen[n]):

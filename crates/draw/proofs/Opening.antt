@@ -52,12 +52,12 @@ few_less f (suc (suc zero)) h = omega arith
 few_less f (suc (suc (suc zero))) h = omega arith
 few_less f (suc (suc (suc (suc q)))) h = absurd (omega arith)
 
-index-nth : (q : ℕ) → q < 4 → index (nth q) ≡ q
-index-nth zero h = refl
-index-nth (suc zero) h = refl
-index-nth (suc (suc zero)) h = refl
-index-nth (suc (suc (suc zero))) h = refl
-index-nth (suc (suc (suc (suc q)))) h = absurd (omega arith)
+index_nth : (q : ℕ) → q < 4 → index (nth q) ≡ q
+index_nth zero h = refl
+index_nth (suc zero) h = refl
+index_nth (suc (suc zero)) h = refl
+index_nth (suc (suc (suc zero))) h = refl
+index_nth (suc (suc (suc (suc q)))) h = absurd (omega arith)
 
 -- the boxes right below f that touch the window have come in
 pub record Opened (w : Window) (f : Node) (before after : List Node) : Type 0 where
@@ -71,10 +71,10 @@ opens w f before = record { kids = []; are = kids_none w f; shuffled = IsPermuta
 
 module _ (w : Window) (f : Node) (q : ℕ) (lt : q < 4) (before mid after : List Node) (h : Opening w f q before mid) where
   at_nth : KidsBelow w f (index (nth q)) h.kids
-  at_nth = subst (λ (n : ℕ). KidsBelow w f n h.kids) (sym (index-nth q lt)) h.are
+  at_nth = subst (λ (n : ℕ). KidsBelow w f n h.kids) (sym (index_nth q lt)) h.are
 
   next : (l : List Node) → KidsBelow w f (index (nth q) + 1) l → KidsBelow w f (q + 1) l
-  next l v = subst (λ (n : ℕ). KidsBelow w f (n + 1) l) (index-nth q lt) v
+  next l v = subst (λ (n : ℕ). KidsBelow w f (n + 1) l) (index_nth q lt) v
 
   few_next : few f (q + 1) ≡ few f q + count (sub q (tree f))
   few_next = ap (few f) (add-one q)

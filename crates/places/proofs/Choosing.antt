@@ -3,7 +3,7 @@ use Rattle.std.proofs.Common.{◌≡◌, ℕ, ◌⊎◌, List, [], ◌∷◌, �
 use Rattle.grade.specs.Kind.{Kind, Laws}
 use Rattle.treap.specs.Spots.{Spot, Outranks}
 use Rattle.treap.specs.Trees.{Quadrant, tl, tr, bl, br, In}
-use Rattle.treap.proofs.Lists.{in-append}
+use Rattle.treap.proofs.Lists.{in_append}
 use Rattle.treap.proofs.Ranks.{irrefl, trans, tri}
 use Rattle.places.specs.Places.{Cell, link}
 use Rattle.places.specs.Children.{Choice, Chosen, ChildAt, Better, StaysAbove, Best}
@@ -33,17 +33,17 @@ module _ (k : Kind) (L : Laws k) (at : ℕ → Cell) (p : Cell) where
   leads_both qs rs None b r ha hb e = subst (Leads (qs ++ rs)) (sym e) (go b hb)
     where
       go : (b : Option Choice) → Leads rs b → Leads (qs ++ rs) b
-      go None h = λ q i. elim (in-append qs rs q i) [ inl v ↦ ha q v | inr v ↦ h q v ]
-      go (Some y) h = (h.0, λ q i. elim (in-append qs rs q i) [ inl v ↦ (λ j l. absurd (not_none j (sym l ∙ ha q v))) | inr v ↦ h.1 q v ])
+      go None h = λ q i. elim (in_append qs rs q i) [ inl v ↦ ha q v | inr v ↦ h q v ]
+      go (Some y) h = (h.0, λ q i. elim (in_append qs rs q i) [ inl v ↦ (λ j l. absurd (not_none j (sym l ∙ ha q v))) | inr v ↦ h.1 q v ])
   leads_both qs rs (Some x) None r ha hb e =
       subst (Leads (qs ++ rs)) (sym e)
-      (ha.0, λ q i. elim (in-append qs rs q i) [ inl v ↦ ha.1 q v | inr v ↦ (λ j l. absurd (not_none j (sym l ∙ hb q v))) ])
+      (ha.0, λ q i. elim (in_append qs rs q i) [ inl v ↦ ha.1 q v | inr v ↦ (λ j l. absurd (not_none j (sym l ∙ hb q v))) ])
   leads_both qs rs (Some x) (Some y) r ha hb (inl e) =
       subst (Leads (qs ++ rs)) (sym e.0)
-      (hb.0, λ q i. elim (in-append qs rs q i) [ inl v ↦ (λ j l o. ha.1 q v j l (trans k L (at j).mark y.mark x.mark o e.1)) | inr v ↦ hb.1 q v ])
+      (hb.0, λ q i. elim (in_append qs rs q i) [ inl v ↦ (λ j l o. ha.1 q v j l (trans k L (at j).mark y.mark x.mark o e.1)) | inr v ↦ hb.1 q v ])
   leads_both qs rs (Some x) (Some y) r ha hb (inr e) =
       subst (Leads (qs ++ rs)) (sym e.0)
-      (ha.0, λ q i. elim (in-append qs rs q i) [ inl v ↦ ha.1 q v | inr v ↦ (λ j l o. over (at j).mark o (hb.1 q v j l) (tri k L (at j).mark y.mark)) ])
+      (ha.0, λ q i. elim (in_append qs rs q i) [ inl v ↦ ha.1 q v | inr v ↦ (λ j l o. over (at j).mark o (hb.1 q v j l) (tri k L (at j).mark y.mark)) ])
     where
       over : (m : Spot) → Outranks k m x.mark → (Outranks k m y.mark → ⊥) → Outranks k m y.mark ⊎ (m ≡ y.mark) ⊎ Outranks k y.mark m → ⊥
       over m o not-y (inl v) = not-y v

@@ -165,8 +165,8 @@ module _ (l fresh i : ℕ) (j : Option ℕ) (at bt ct : ℕ → Cell) (w : Spot)
 pub at_place : (k : Kind) (s : Square) (bound : ℕ) (at : ℕ → Cell) (root : Option ℕ) (i : ℕ) → root ≡ Some i → Stands k s bound (tree_in s at root) → Stands k s bound (tree_in s at (Some i))
 at_place k s bound at root i is st = subst (λ (o : Option ℕ). Stands k s bound (tree_in s at o)) is st
 
-pub in-places : (k : Kind) (s : Square) (bound : ℕ) (at : ℕ → Cell) (root : Option ℕ) (i : ℕ) → root ≡ Some i → Stands k s bound (tree_in s at root) → i < bound
-in-places k s bound at root i is st = root_below k s bound at i (at_place k s bound at root i is st)
+pub in_places : (k : Kind) (s : Square) (bound : ℕ) (at : ℕ → Cell) (root : Option ℕ) (i : ℕ) → root ≡ Some i → Stands k s bound (tree_in s at root) → i < bound
+in_places k s bound at root i is st = root_below k s bound at i (at_place k s bound at root i is st)
 
 -- a place below the number of places fits a link
 pub below_limit : (bound : ℕ) (o : Option ℕ) → bound ≤ 65535 → Below bound o → Below 65535 o

@@ -11,7 +11,7 @@ use Rattle.treap.specs.Draws.{Window, Touches, Seen, Best, Part, whole, deeper, 
 use Rattle.treap.proofs.Ranks.{decides_outranks}
 use Rattle.treap.proofs.Shown.{one_tree_lem}
 use Rattle.treap.proofs.Counts.{same, same_is, is_same}
-use Rattle.treap.proofs.Lists.{in-first, in-last, in-append, in_both, apart_under, apart_parts, apart_shorter}
+use Rattle.treap.proofs.Lists.{in_first, in_last, in_append, in_both, apart_under, apart_parts, apart_shorter}
 use Rattle.treap.proofs.Bests.{one_best, best_of}
 use Rattle.treap.proofs.Needed.{Reaches, Wanted, Numbered, wanted_is_needed, wanted_is_enough}
 
@@ -93,7 +93,7 @@ keep true i l = i ∷ l
 keep false i l = l
 
 in_four : (S a b c d : List ℕ) (x : ℕ) → (In a x → In S x) → (In b x → In S x) → (In c x → In S x) → (In d x → In S x) → In (a ++ (b ++ (c ++ d))) x → In S x
-in_four S a b c d x fa fb fc fd h = either₃ (in-append a (b ++ (c ++ d)) x h)
+in_four S a b c d x fa fb fc fd h = either₃ (in_append a (b ++ (c ++ d)) x h)
   where
     either₁ : In c x ⊎ In d x → In S x
     either₁ (inl p) = fc p
@@ -101,11 +101,11 @@ in_four S a b c d x fa fb fc fd h = either₃ (in-append a (b ++ (c ++ d)) x h)
 
     either₂ : In b x ⊎ In (c ++ d) x → In S x
     either₂ (inl p) = fb p
-    either₂ (inr p) = either₁ (in-append c d x p)
+    either₂ (inr p) = either₁ (in_append c d x p)
 
     either₃ : In a x ⊎ In (b ++ (c ++ d)) x → In S x
     either₃ (inl p) = fa p
-    either₃ (inr p) = either₂ (in-append b (c ++ d) x p)
+    either₃ (inr p) = either₂ (in_append b (c ++ d) x p)
 
 module _ (k : Kind) (w : Window) (n : ℕ) (l : List Spot) where
   -- the box of the square s with the mark m is wanted, as a test
@@ -155,21 +155,21 @@ module _ (k : Kind) (w : Window) (n : ℕ) (l : List Spot) where
       let ed = length_gather (quadrant br s) d in
       length_keep (wants s m) i _ _ (simp length-append (omega arith))
 
-  in-keep : (v : Bool) (i : ℕ) (r : List ℕ) (x : ℕ) → In r x → In (keep v i r) x
+  in_keep : (v : Bool) (i : ℕ) (r : List ℕ) (x : ℕ) → In r x → In (keep v i r) x
   unfolding keep
-  in-keep true i r x h = inr h
-  in-keep false i r x h = h
+  in_keep true i r x h = inr h
+  in_keep false i r x h = h
 
-  in-gather-quadrant : (s : Square) (i : ℕ) (m : Spot) (a b c d : Tree) (q : Quadrant) (x : ℕ) → In (gather (quadrant q s) (pick a b c d q)) x → In (gather s (box i m a b c d)) x
+  in_gather_quadrant : (s : Square) (i : ℕ) (m : Spot) (a b c d : Tree) (q : Quadrant) (x : ℕ) → In (gather (quadrant q s) (pick a b c d q)) x → In (gather s (box i m a b c d)) x
   unfolding gather
-  in-gather-quadrant s i m a b c d tl x h = in-keep (wants s m) i _ x (in-first _ _ x h)
-  in-gather-quadrant s i m a b c d tr x h = in-keep (wants s m) i _ x (in-last (gather (quadrant tl s) a) _ x (in-first _ _ x h))
-  in-gather-quadrant s i m a b c d bl x h = in-keep (wants s m) i _ x (in-last (gather (quadrant tl s) a) _ x (in-last (gather (quadrant tr s) b) _ x (in-first _ _ x h)))
-  in-gather-quadrant s i m a b c d br x h = in-keep (wants s m) i _ x (in-last (gather (quadrant tl s) a) _ x (in-last (gather (quadrant tr s) b) _ x (in-last (gather (quadrant bl s) c) _ x h)))
+  in_gather_quadrant s i m a b c d tl x h = in_keep (wants s m) i _ x (in_first _ _ x h)
+  in_gather_quadrant s i m a b c d tr x h = in_keep (wants s m) i _ x (in_last (gather (quadrant tl s) a) _ x (in_first _ _ x h))
+  in_gather_quadrant s i m a b c d bl x h = in_keep (wants s m) i _ x (in_last (gather (quadrant tl s) a) _ x (in_last (gather (quadrant tr s) b) _ x (in_first _ _ x h)))
+  in_gather_quadrant s i m a b c d br x h = in_keep (wants s m) i _ x (in_last (gather (quadrant tl s) a) _ x (in_last (gather (quadrant tr s) b) _ x (in_last (gather (quadrant bl s) c) _ x h)))
 
-  in-gather-part : {s : Square} {t : Tree} {r : Square} {u : Tree} → Part s t r u → (x : ℕ) → In (gather r u) x → In (gather s t) x
-  in-gather-part whole x h = h
-  in-gather-part (deeper {r = r} {i = i} {m = m} {a = a} {b = b} {c = c} {d = d} p q) x h = in-gather-part p x (in-gather-quadrant r i m a b c d q x h)
+  in_gather_part : {s : Square} {t : Tree} {r : Square} {u : Tree} → Part s t r u → (x : ℕ) → In (gather r u) x → In (gather s t) x
+  in_gather_part whole x h = h
+  in_gather_part (deeper {r = r} {i = i} {m = m} {a = a} {b = b} {c = c} {d = d} p q) x h = in_gather_part p x (in_gather_quadrant r i m a b c d q x h)
 
   kept : (v : Bool) → v ≡ true → (i : ℕ) (z : List ℕ) → In (keep v i z) i
   unfolding keep
@@ -183,7 +183,7 @@ module _ (k : Kind) (w : Window) (n : ℕ) (l : List Spot) where
 
   numbered_part : {s : Square} {t : Tree} {r : Square} → (u : Tree) → Part s t r u → Numbered (gather r u) u → Numbered (gather s t) u
   numbered_part none p h = h
-  numbered_part (box i m a b c d) p h = in-gather-part p i h
+  numbered_part (box i m a b c d) p h = in_gather_part p i h
 
   keep_cases : (v : Bool) (S : List ℕ) (i x : ℕ) → (v ≡ true → In S i) → (z : List ℕ) → (In z x → In S x) → In (keep v i z) x → In S x
   unfolding keep

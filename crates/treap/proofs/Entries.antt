@@ -8,7 +8,7 @@ use Rattle.treap.specs.Ledgers.{entry, row_entries, rows_entries, entries}
 use Rattle.treap.specs.Sums.{Alone, grade_in, ledger_of}
 use Rattle.treap.specs.Plants.{best, share, plant_at, plant, Planted}
 use Rattle.treap.specs.Entries.{plan_square, LedgerTree, SameMarksSameTree}
-use Rattle.treap.proofs.Lists.{in-append, in-first, in-last}
+use Rattle.treap.proofs.Lists.{in_append, in_first, in_last}
 use Rattle.treap.proofs.Ranks.{spot_eq}
 use Rattle.treap.proofs.Shown.{shown_holds, one_tree_lem}
 use Rattle.treap.proofs.Plants.{some_tree_lem}
@@ -31,7 +31,7 @@ module _ (grade : ℕ → ℕ → Option ℕ) where
   in_row : (row n : ℕ) (x : Spot) → In (row_entries grade row n) x → (x.row ≡ row) × (grade x.row x.col ≡ Some x.grade)
   in_row row zero x h = absurd h
   in_row row (suc n) x h =
-      elim (in-append (row_entries grade row n) (entry row n (grade row n)) x h) [
+      elim (in_append (row_entries grade row n) (entry row n (grade row n)) x h) [
         | inl g ↦ in_row row n x g
         | inr g ↦ let e = in_entry row n (grade row n) x g in (e.0, rw (e.0, e.1) e.2)
       ]
@@ -39,17 +39,17 @@ module _ (grade : ℕ → ℕ → Option ℕ) where
   in_rows : (w n : ℕ) (x : Spot) → In (rows_entries grade w n) x → grade x.row x.col ≡ Some x.grade
   in_rows w zero x h = absurd h
   in_rows w (suc n) x h =
-      elim (in-append (rows_entries grade w n) (row_entries grade n w) x h) [ inl g ↦ in_rows w n x g | inr g ↦ (in_row n w x g).1 ]
+      elim (in_append (rows_entries grade w n) (row_entries grade n w) x h) [ inl g ↦ in_rows w n x g | inr g ↦ (in_row n w x g).1 ]
 
   row_has : (n : ℕ) (x : Spot) → x.col < n → grade x.row x.col ≡ Some x.grade → In (row_entries grade x.row n) x
   row_has zero x c e = absurd (omega arith)
   row_has (suc n) x c e = go (dec_lt x.col n) (λ b. row_has n x b e)
     where
       go : Dec (x.col < n) → (x.col < n → In (row_entries grade x.row n) x) → In (row_entries grade x.row (suc n)) x
-      go (yes b) rest = in-first (row_entries grade x.row n) (entry x.row n (grade x.row n)) x (rest b)
+      go (yes b) rest = in_first (row_entries grade x.row n) (entry x.row n (grade x.row n)) x (rest b)
       go (no b) rest =
           let q : x.col ≡ n = omega arith in
-          in-last (row_entries grade x.row n) (entry x.row n (grade x.row n)) x
+          in_last (row_entries grade x.row n) (entry x.row n (grade x.row n)) x
           (subst (λ (i : ℕ). In (entry x.row i (grade x.row i)) x) q (entry_has x (grade x.row x.col) e))
 
   rows_has : (w n : ℕ) (x : Spot)
@@ -61,10 +61,10 @@ module _ (grade : ℕ → ℕ → Option ℕ) where
   rows_has w (suc n) x r c e = go (dec_lt x.row n) (λ b. rows_has w n x b c e)
     where
       go : Dec (x.row < n) → (x.row < n → In (rows_entries grade w n) x) → In (rows_entries grade w (suc n)) x
-      go (yes b) rest = in-first (rows_entries grade w n) (row_entries grade n w) x (rest b)
+      go (yes b) rest = in_first (rows_entries grade w n) (row_entries grade n w) x (rest b)
       go (no b) rest =
           let q : x.row ≡ n = omega arith in
-          in-last (rows_entries grade w n) (row_entries grade n w) x
+          in_last (rows_entries grade w n) (row_entries grade n w) x
           (subst (λ (i : ℕ). In (row_entries grade i w) x) q (row_has w x c e))
 
 unnumbered_plant : (k : Kind) (level : ℕ) (s : Square) (l : List Spot) → unnumbered (plant_at k level s l) ≡ plant_at k level s l

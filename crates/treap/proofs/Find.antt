@@ -6,7 +6,7 @@ use Rattle.grade.specs.Kind.{Kind}
 use Rattle.treap.specs.Spots.{Spot}
 use Rattle.treap.specs.Trees.{Quadrant, tl, tr, bl, br, Square, quadrant, Tree, none, box, pick, number, or, sub, find, numbers, Shows, Ordered, In, Apart}
 use Rattle.treap.specs.Draws.{Part, whole, deeper}
-use Rattle.treap.proofs.Lists.{in?, in-first, in-last, in-append, apart_parts, apart_not_both}
+use Rattle.treap.proofs.Lists.{in?, in_first, in_last, in_append, apart_parts, apart_not_both}
 use Rattle.treap.proofs.Shown.{by_quadrant}
 use Rattle.treap.proofs.Needed.{part_lawful}
 use Rattle.treap.proofs.Counted.{part_of_part}
@@ -42,10 +42,10 @@ root_in (box i m a b c d) n e = inl (cc)
 pub find_miss : (n : ℕ) (t : Tree) → (In (numbers t) n → ⊥) → find n t ≡ none
 find_miss n none h = refl
 find_miss n (box i m a b c d) h =
-    let ea = find_miss n a (λ p. h (inr (in-first (numbers a) _ n p))) in
-    let eb = find_miss n b (λ p. h (inr (in-last (numbers a) _ n (in-first (numbers b) _ n p)))) in
-    let ec = find_miss n c (λ p. h (inr (in-last (numbers a) _ n (in-last (numbers b) _ n (in-first (numbers c) _ n p))))) in
-    let ed = find_miss n d (λ p. h (inr (in-last (numbers a) _ n (in-last (numbers b) _ n (in-last (numbers c) _ n p))))) in
+    let ea = find_miss n a (λ p. h (inr (in_first (numbers a) _ n p))) in
+    let eb = find_miss n b (λ p. h (inr (in_last (numbers a) _ n (in_first (numbers b) _ n p)))) in
+    let ec = find_miss n c (λ p. h (inr (in_last (numbers a) _ n (in_last (numbers b) _ n (in_first (numbers c) _ n p))))) in
+    let ed = find_miss n d (λ p. h (inr (in_last (numbers a) _ n (in_last (numbers b) _ n (in_last (numbers c) _ n p))))) in
     rw (ne_eqb n i (λ e. h (inl e)), ea, eb, ec, ed)
 
 -- what is found is a part of the tree, and has the number
@@ -87,11 +87,11 @@ hits n i m a b c d fa fb fc fd (inr x) false f e =
     let x0 = or_none (find n a) _ e in
     let x1 = or_none (find n b) _ x0.1 in
     let x2 = or_none (find n c) _ x1.1 in
-    elim (in-append (numbers a) _ n x) [
+    elim (in_append (numbers a) _ n x) [
       | inl p ↦ fa p x0.0
-      | inr p ↦ elim (in-append (numbers b) _ n p) [
+      | inr p ↦ elim (in_append (numbers b) _ n p) [
         | inl q ↦ fb q x1.0
-        | inr q ↦ elim (in-append (numbers c) _ n q) [ inl r ↦ fc r x2.0 | inr r ↦ fd r x2.1 ]
+        | inr q ↦ elim (in_append (numbers c) _ n q) [ inl r ↦ fc r x2.0 | inr r ↦ fd r x2.1 ]
       ]
     ]
 
@@ -118,8 +118,8 @@ apart_quadrant i m a b c d h =
     by_quadrant (λ q. Apart (numbers (pick a b c d q))) pa.0 pb.0 pc.0 pc.1
 
 -- a number of a quadrant is found there
-in-quadrant : (n i : ℕ) (m : Spot) (a b c d : Tree) → Apart (numbers (box i m a b c d)) → (q : Quadrant) → In (numbers (pick a b c d q)) n → find n (box i m a b c d) ≡ find n (pick a b c d q)
-in-quadrant n i m a b c d h q p = rw (ne_eqb n i other) (at q p)
+in_quadrant : (n i : ℕ) (m : Spot) (a b c d : Tree) → Apart (numbers (box i m a b c d)) → (q : Quadrant) → In (numbers (pick a b c d q)) n → find n (box i m a b c d) ≡ find n (pick a b c d q)
+in_quadrant n i m a b c d h q p = rw (ne_eqb n i other) (at q p)
   where
     other : n ≡ i → ⊥
     other e = h.0 (subst (λ (j : ℕ). In (numbers a ++ (numbers b ++ (numbers c ++ numbers d))) j) e (numbers_quadrant i m a b c d q n p))
@@ -141,9 +141,9 @@ in-quadrant n i m a b c d h q p = rw (ne_eqb n i other) (at q p)
 
     at : (q : Quadrant) → In (numbers (pick a b c d q)) n → or (find n a) (or (find n b) (or (find n c) (find n d))) ≡ find n (pick a b c d q)
     at tl v = or_some (find n a) _ n (find_hit n a v)
-    at tr v = rw (no_a (in-first (numbers b) _ n v)) (or_some (find n b) _ n (find_hit n b v))
-    at bl v = rw (no_a (in-last (numbers b) _ n (in-first (numbers c) _ n v)), no_b (in-first (numbers c) _ n v)) (or_some (find n c) _ n (find_hit n c v))
-    at br v = rw (no_a (in-last (numbers b) _ n (in-last (numbers c) _ n v)), no_b (in-last (numbers c) _ n v), no_c v)
+    at tr v = rw (no_a (in_first (numbers b) _ n v)) (or_some (find n b) _ n (find_hit n b v))
+    at bl v = rw (no_a (in_last (numbers b) _ n (in_first (numbers c) _ n v)), no_b (in_first (numbers c) _ n v)) (or_some (find n c) _ n (find_hit n c v))
+    at br v = rw (no_a (in_last (numbers b) _ n (in_last (numbers c) _ n v)), no_b (in_last (numbers c) _ n v), no_c v)
 
 abbrev Finds : Square → Tree → Type 0
 Finds s t = (n : ℕ) (r : Square) (u : Tree) → Part s t r u → Apart (numbers t) → number u ≡ Some n → find n t ≡ u
@@ -156,7 +156,7 @@ find_step s i m a b c d f n r u p h e = go (part_first p)
         let same : n ≡ i = cc in
         rw (eq-eqb n i same) (sym x.1)
     go (inr x) =
-        in-quadrant n i m a b c d h x.0 (part_numbers x.1 n (root_in u n e))
+        in_quadrant n i m a b c d h x.0 (part_numbers x.1 n (root_in u n e))
         ∙ f x.0 n r u x.1 (apart_quadrant i m a b c d h x.0) e
 
 pub find_part : (s : Square) (t : Tree) → Finds s t

@@ -6,7 +6,7 @@ use Rattle.treap.specs.Spots.{Spot, Fair, Before, Outranks}
 use Rattle.treap.specs.Trees.{Quadrant, tl, tr, bl, br, Square, Within, quadrant, Tree, none, box, pick, Shows, Holds, Hangs, Ordered, In, Apart, numbers}
 use Rattle.treap.specs.Layers.{kept, floor, FloorShows, moved_spot, moved_square_lem, moved, ShiftShows}
 use Rattle.treap.proofs.Shown.{shown_holds, root_over, lawful_quadrant, hangs, split, below}
-use Rattle.treap.proofs.Lists.{in-first, in-last, in-append, in_both, apart_under, apart_parts}
+use Rattle.treap.proofs.Lists.{in_first, in_last, in_append, in_both, apart_under, apart_parts}
 
 either_map : {A B C D : Type 0} → (A → C) → (B → D) → A ⊎ B → C ⊎ D
 either_map f g (inl x) = inl (f x)

@@ -11,19 +11,19 @@ in? {A} eq (y ∷ l) x = go (eq x y) (in? eq l x)
     go (no e) (inl h) = inl (inr h)
     go (no e) (inr h) = inr (elim [ inl p ↦ e p | inr p ↦ h p ])
 
-pub in-first : {A : Type 0} (l r : List A) (x : A) → In l x → In (l ++ r) x
-in-first [] r x h = absurd h
-in-first (y ∷ l) r x (inl e) = inl e
-in-first (y ∷ l) r x (inr h) = inr (in-first l r x h)
+pub in_first : {A : Type 0} (l r : List A) (x : A) → In l x → In (l ++ r) x
+in_first [] r x h = absurd h
+in_first (y ∷ l) r x (inl e) = inl e
+in_first (y ∷ l) r x (inr h) = inr (in_first l r x h)
 
-pub in-last : {A : Type 0} (l r : List A) (x : A) → In r x → In (l ++ r) x
-in-last [] r x h = h
-in-last (y ∷ l) r x h = inr (in-last l r x h)
+pub in_last : {A : Type 0} (l r : List A) (x : A) → In r x → In (l ++ r) x
+in_last [] r x h = h
+in_last (y ∷ l) r x h = inr (in_last l r x h)
 
-pub in-append : {A : Type 0} (l r : List A) (x : A) → In (l ++ r) x → In l x ⊎ In r x
-in-append [] r x h = inr h
-in-append (y ∷ l) r x (inl e) = inl (inl e)
-in-append {A} (y ∷ l) r x (inr h) = go (in-append l r x h)
+pub in_append : {A : Type 0} (l r : List A) (x : A) → In (l ++ r) x → In l x ⊎ In r x
+in_append [] r x h = inr h
+in_append (y ∷ l) r x (inl e) = inl (inl e)
+in_append {A} (y ∷ l) r x (inr h) = go (in_append l r x h)
   where
     go : In l x ⊎ In r x → In (y ∷ l) x ⊎ In r x
     go (inl p) = inl (inr p)
@@ -65,14 +65,14 @@ apart_right (x ∷ l) r h = apart_right l r h.1
 
 apart_left : {A : Type 0} (l r : List A) → Apart (l ++ r) → Apart l
 apart_left [] r h = tt
-apart_left (x ∷ l) r h = (λ g. h.0 (in-first l r x g), apart_left l r h.1)
+apart_left (x ∷ l) r h = (λ g. h.0 (in_first l r x g), apart_left l r h.1)
 
 pub apart_parts : {A : Type 0} (l r : List A) → Apart (l ++ r) → Apart l × Apart r
 apart_parts l r h = (apart_left l r h, apart_right l r h)
 
 pub apart_not_both : {A : Type 0} (l r : List A) → Apart (l ++ r) → (x : A) → In l x → In r x → ⊥
 apart_not_both [] r h x p q = p
-apart_not_both {A} (y ∷ l) r h x (inl e) q = h.0 (in-last l r y (subst (λ (z : A). In r z) e q))
+apart_not_both {A} (y ∷ l) r h x (inl e) q = h.0 (in_last l r y (subst (λ (z : A). In r z) e q))
 apart_not_both (y ∷ l) r h x (inr p) q = apart_not_both l r h.1 x p q
 
 pub apart_joined : {A : Type 0} (l r : List A) → Apart l → Apart r → ((x : A) → In l x → In r x → ⊥) → Apart (l ++ r)
@@ -84,14 +84,14 @@ apart_joined {A} (x ∷ l) r hl hr no_both = (go, apart_joined l r hl.1 hr (λ z
     cases (inr p) = no_both x (inl refl) p
 
     go : In (l ++ r) x → ⊥
-    go p = cases (in-append l r x p)
+    go p = cases (in_append l r x p)
 
 pub in_both : {A : Type 0} (l r v z : List A) → ((x : A) → In v x → In l x) → ((x : A) → In z x → In r x) → (x : A) → In (v ++ z) x → In (l ++ r) x
-in_both {A} l r v z f g x h = go (in-append v z x h)
+in_both {A} l r v z f g x h = go (in_append v z x h)
   where
     go : In v x ⊎ In z x → In (l ++ r) x
-    go (inl p) = in-first l r x (f x p)
-    go (inr p) = in-last l r x (g x p)
+    go (inl p) = in_first l r x (f x p)
+    go (inr p) = in_last l r x (g x p)
 
 pub apart_under : {A : Type 0} (l r v z : List A) → Apart (l ++ r) → Apart v → Apart z → ((x : A) → In v x → In l x) → ((x : A) → In z x → In r x) → Apart (v ++ z)
 apart_under l r v z h hv hz f g = apart_joined v z hv hz (λ x p q. apart_not_both l r h x (f x p) (g x q))

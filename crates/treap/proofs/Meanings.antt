@@ -7,7 +7,7 @@ use Rattle.treap.specs.Refusals.{first}
 use Rattle.treap.specs.Spots.{Spot, Outranks}
 use Rattle.treap.specs.Trees.{Quadrant, tl, tr, bl, br, Square, quadrant, Tree, none, box, pick, number, or, sub, find, count, numbers, Shows, Ordered, In, Apart, Lone, Meaning, Lawful}
 use Rattle.treap.specs.Layers.{kept, floor, moved_spot, moved_square_lem, moved, floored, shifted, shift_refusal}
-use Rattle.treap.proofs.Lists.{in?, in-first, in-last, in-append, apart_parts, apart_not_both}
+use Rattle.treap.proofs.Lists.{in?, in_first, in_last, in_append, apart_parts, apart_not_both}
 use Rattle.treap.proofs.Ranks.{spot_eq}
 use Rattle.treap.proofs.Shown.{split, shown_holds, root_over}
 use Rattle.treap.proofs.Find.{find_miss, find_shown, or_right, ordered_find}
@@ -56,10 +56,10 @@ module _ (k : Kind) (L : Laws k) (g : ℕ) where
       pb = apart_parts (numbers b) _ pa.1
 
       miss_cd : (In (numbers c ++ numbers d) n → ⊥) → or (find n c) (find n d) ≡ none
-      miss_cd f = rw (find_miss n c (λ p. f (in-first (numbers c) _ n p)), find_miss n d (λ p. f (in-last (numbers c) _ n p)))
+      miss_cd f = rw (find_miss n c (λ p. f (in_first (numbers c) _ n p)), find_miss n d (λ p. f (in_last (numbers c) _ n p)))
 
       miss_bcd : (In (numbers b ++ (numbers c ++ numbers d)) n → ⊥) → or (find n b) (or (find n c) (find n d)) ≡ none
-      miss_bcd f = rw (find_miss n b (λ p. f (in-first (numbers b) _ n p))) (miss_cd (λ p. f (in-last (numbers b) _ n p)))
+      miss_bcd f = rw (find_miss n b (λ p. f (in_first (numbers b) _ n p))) (miss_cd (λ p. f (in_last (numbers b) _ n p)))
 
       all : or (find n (floor k g a)) (or (find n (floor k g b)) (or (find n (floor k g c)) (find n (floor k g d)))) ≡ floor k g (or (find n a) (or (find n b) (or (find n c) (find n d))))
       all =

@@ -27,15 +27,15 @@ times_numbers n (box i m a b c d) =
       times_numbers n d,
     )
 
-in-times : (n : ℕ) (l : List ℕ) → In l n → 1 ≤ times n l
-in-times n [] h = absurd h
-in-times n (x ∷ l) (inl e) = omega (arith, one_is n x e)
-in-times n (x ∷ l) (inr h) = omega (arith, in-times n l h)
+in_times : (n : ℕ) (l : List ℕ) → In l n → 1 ≤ times n l
+in_times n [] h = absurd h
+in_times n (x ∷ l) (inl e) = omega (arith, one_is n x e)
+in_times n (x ∷ l) (inr h) = omega (arith, in_times n l h)
 
 once_apart : (l : List ℕ) → ((n : ℕ) → times n l ≤ 1) → Apart l
 once_apart [] h = tt
 once_apart (x ∷ l) h =
-    (λ g. omega (arith, h x, one_is x x refl, in-times x l g), once_apart l (λ n. omega (arith, h n)))
+    (λ g. omega (arith, h x, one_is x x refl, in_times x l g), once_apart l (λ n. omega (arith, h n)))
 
 pub single_apart : (t : Tree) → ((n : ℕ) → held n t ≤ 1) → Apart (numbers t)
 single_apart t h = once_apart (numbers t) (λ n. omega (arith, times_numbers n t, h n))

@@ -23,11 +23,11 @@ use Rattle.treap.specs.Trees.{
   Hangs,
   In,
 }
-use Rattle.treap.specs.Plants.{outranks, in-square, best, share, plant_at, OneACell, Planted, SomeTree}
+use Rattle.treap.specs.Plants.{outranks, in_square, best, share, plant_at, OneACell, Planted, SomeTree}
 use Rattle.treap.proofs.Ranks.{trans, tri, decides_outranks}
 use Rattle.treap.proofs.Shown.{below, split, halves}
 
-pub decides_in_square : (s : Square) (m : Spot) → Decides (in-square s m) (Within s m.row m.col)
+pub decides_in_square : (s : Square) (m : Spot) → Decides (in_square s m) (Within s m.row m.col)
 decides_in_square s m = (
   λ e.
       record {
@@ -67,8 +67,8 @@ share_in : (k : Kind) (m : Spot) (s : Square) (l : List Spot) (x : Spot)
     → In (share k m s l) x
     → In l x × Outranks k m x × Within s x.row x.col
 share_in k m s l x h =
-    let r = kept_in (λ y. outranks k m y && in-square s y) l x h in
-    let e = and_parts (outranks k m x) (in-square s x) r.1 in
+    let r = kept_in (λ y. outranks k m y && in_square s y) l x h in
+    let e = and_parts (outranks k m x) (in_square s x) r.1 in
     (r.0, (decides_outranks k m x).0 e.0, (decides_in_square s x).0 e.1)
 
 share_has : (k : Kind) (m : Spot) (s : Square) (l : List Spot) (x : Spot)
@@ -77,8 +77,8 @@ share_has : (k : Kind) (m : Spot) (s : Square) (l : List Spot) (x : Spot)
     → Within s x.row x.col
     → In (share k m s l) x
 share_has k m s l x h o w =
-    kept_has (λ y. outranks k m y && in-square s y) l x h
-    (and_from (outranks k m x) (in-square s x) ((decides_outranks k m x).1 o) ((decides_in_square s x).1 w))
+    kept_has (λ y. outranks k m y && in_square s y) l x h
+    (and_from (outranks k m x) (in_square s x) ((decides_outranks k m x).1 o) ((decides_in_square s x).1 w))
 
 -- m is x or outranks it
 abbrev Leads : Kind → Spot → Spot → Type 0

@@ -8,7 +8,7 @@ use Rattle.treap.specs.Draws.{Window, Sees, Touches, Draws, Part, whole, SomeDra
 use Rattle.treap.specs.Searches.{Node, tree, child, Share, Spread}
 use Rattle.treap.proofs.Ranks.{irrefl_eq, trans, asym, tri}
 use Rattle.treap.proofs.Shown.{one_quadrant}
-use Rattle.treap.proofs.Lists.{in-first, in-last, in-append}
+use Rattle.treap.proofs.Lists.{in_first, in_last, in_append}
 use Rattle.treap.proofs.Needed.{part_lawful}
 use Rattle.treap.proofs.Counted.{touches?}
 use Rattle.treap.proofs.Walks.{Walk, Lists, Kids, Search, Boxed, no_part, node_eq, touches_part, spread_joined, search_starts, search_lists, search_passes, search_ends}
@@ -129,16 +129,16 @@ module _ (w : Window) (f : Node) where
   pub brood : List Node
   brood = mine tl ++ (mine tr ++ (mine bl ++ mine br))
 
-  in-brood : (q : Quadrant) (e : Node) → In (mine q) e → In brood e
+  in_brood : (q : Quadrant) (e : Node) → In (mine q) e → In brood e
   unfolding brood
-  in-brood tl e p = in-first _ _ e p
-  in-brood tr e p = in-last (mine tl) _ e (in-first _ _ e p)
-  in-brood bl e p = in-last (mine tl) _ e (in-last (mine tr) _ e (in-first _ _ e p))
-  in-brood br e p = in-last (mine tl) _ e (in-last (mine tr) _ e (in-last (mine bl) _ e p))
+  in_brood tl e p = in_first _ _ e p
+  in_brood tr e p = in_last (mine tl) _ e (in_first _ _ e p)
+  in_brood bl e p = in_last (mine tl) _ e (in_last (mine tr) _ e (in_first _ _ e p))
+  in_brood br e p = in_last (mine tl) _ e (in_last (mine tr) _ e (in_last (mine bl) _ e p))
 
   from_brood : (e : Node) → In brood e → (q : Quadrant) × In (mine q) e
   unfolding brood
-  from_brood e p = one (in-append (mine tl) _ e p)
+  from_brood e p = one (in_append (mine tl) _ e p)
     where
       three : In (mine bl) e ⊎ In (mine br) e → (q : Quadrant) × In (mine q) e
       three (inl x) = (bl, x)
@@ -146,11 +146,11 @@ module _ (w : Window) (f : Node) where
 
       two : In (mine tr) e ⊎ In (mine bl ++ mine br) e → (q : Quadrant) × In (mine q) e
       two (inl x) = (tr, x)
-      two (inr x) = three (in-append (mine bl) _ e x)
+      two (inr x) = three (in_append (mine bl) _ e x)
 
       one : In (mine tl) e ⊎ In (mine tr ++ (mine bl ++ mine br)) e → (q : Quadrant) × In (mine q) e
       one (inl x) = (tl, x)
-      one (inr x) = two (in-append (mine tr) _ e x)
+      one (inr x) = two (in_append (mine tr) _ e x)
 
   mine_are : (q : Quadrant) (e : Node) → In (mine q) e → (e.square ≡ quadrant q f.square) × (tree e ≡ child f q) × Touches e.square w
   unfolding mine
@@ -163,10 +163,10 @@ module _ (w : Window) (f : Node) where
       (subst (λ (x : Square). Within x v.row v.col) (mine_are q g hg).0 v.second))
 
   cross_two : (p q r : Quadrant) → (p ≡ q → ⊥) → (p ≡ r → ⊥) → (e g : Node) → In (mine p) e → In (mine q ++ mine r) g → Share e.square g.square → ⊥
-  cross_two p q r nq nr e g he hg v = elim (in-append (mine q) (mine r) g hg) [ inl x ↦ cross p q nq e g he x v | inr x ↦ cross p r nr e g he x v ]
+  cross_two p q r nq nr e g he hg v = elim (in_append (mine q) (mine r) g hg) [ inl x ↦ cross p q nq e g he x v | inr x ↦ cross p r nr e g he x v ]
 
   cross_three : (p q r z : Quadrant) → (p ≡ q → ⊥) → (p ≡ r → ⊥) → (p ≡ z → ⊥) → (e g : Node) → In (mine p) e → In (mine q ++ (mine r ++ mine z)) g → Share e.square g.square → ⊥
-  cross_three p q r z nq nr nz e g he hg v = elim (in-append (mine q) (mine r ++ mine z) g hg) [ inl x ↦ cross p q nq e g he x v | inr x ↦ cross_two p r z nr nz e g he x v ]
+  cross_three p q r z nq nr nz e g he hg v = elim (in_append (mine q) (mine r ++ mine z) g hg) [ inl x ↦ cross p q nq e g he x v | inr x ↦ cross_two p r z nr nz e g he x v ]
 
   mine_spread : (q : Quadrant) → Spread (mine q)
   unfolding mine
@@ -177,7 +177,7 @@ module _ (w : Window) (f : Node) where
   brood_kids =
       record {
         are = λ e p. let r = from_brood e p in let v = mine_are r.0 e r.1 in (r.0, v.0, v.1, v.2);
-        all = λ e q p g v. in-brood q e (kid_has w (quadrant q f.square) (touches? (quadrant q f.square) w) (child f q) e p g v);
+        all = λ e q p g v. in_brood q e (kid_has w (quadrant q f.square) (touches? (quadrant q f.square) w) (child f q) e p g v);
         spread =
             spread_joined (mine tl) _ (mine_spread tl)
             (spread_joined (mine tr) _ (mine_spread tr) (spread_joined (mine bl) (mine br) (mine_spread bl) (mine_spread br) (cross bl br no₆)) (cross_two tr bl br no₄ no₅))

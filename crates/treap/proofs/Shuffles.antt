@@ -13,10 +13,10 @@ use Rattle.treap.specs.Searches.{Node, Share, Spread}
 use Rattle.treap.proofs.Walks.{Walk}
 use Rattle.treap.proofs.Runs.{walk_same, share_sym}
 
-in-at : {A : Type 0} (l : List A) (i : ℕ) (d : A) → i < length l → In l (get_or l i d)
-in-at [] i d h = omega arith
-in-at (x ∷ l) zero d h = inl refl
-in-at (x ∷ l) (suc i) d h = inr (in-at l i d (omega arith))
+in_at : {A : Type 0} (l : List A) (i : ℕ) (d : A) → i < length l → In l (get_or l i d)
+in_at [] i d h = omega arith
+in_at (x ∷ l) zero d h = inl refl
+in_at (x ∷ l) (suc i) d h = inr (in_at l i d (omega arith))
 
 at_in : {A : Type 0} (l : List A) (x d : A) → In l x → (i : ℕ) × (i < length l) × (get_or l i d ≡ x)
 at_in [] x d h = absurd h
@@ -30,8 +30,8 @@ SpreadAt l d = (i j : ℕ) → i < length l → j < length l → (i ≡ j → �
 at_from_spread : (l : List Node) (d : Node) → Spread l → SpreadAt l d
 at_from_spread [] d h i j p q ne v = omega arith
 at_from_spread (x ∷ l) d h zero zero p q ne v = ne refl
-at_from_spread (x ∷ l) d h zero (suc j) p q ne v = h.0 (get_or l j d) (in-at l j d (omega arith)) v
-at_from_spread (x ∷ l) d h (suc i) zero p q ne v = h.0 (get_or l i d) (in-at l i d (omega arith)) (share_sym _ _ v)
+at_from_spread (x ∷ l) d h zero (suc j) p q ne v = h.0 (get_or l j d) (in_at l j d (omega arith)) v
+at_from_spread (x ∷ l) d h (suc i) zero p q ne v = h.0 (get_or l i d) (in_at l i d (omega arith)) (share_sym _ _ v)
 at_from_spread (x ∷ l) d h (suc i) (suc j) p q ne v = at_from_spread l d h.1 i j (omega arith) (omega arith) (λ e. ne (ap suc e)) v
 
 spread_from_at : (l : List Node) (d : Node) → SpreadAt l d → Spread l
@@ -65,14 +65,14 @@ module _ (xs ys : List Node) (a b : ℕ) (d : Node) (la : a < length xs) (lb : b
       let r = at_in xs e d p in
       let s = source r.0 in
       let lt : s.0 < length ys = omega (arith, source_below r.0 s.0 s.1 r.1, len) in
-      subst (λ (y : Node). In ys y) (sym s.3 ∙ r.2) (in-at ys s.0 d lt)
+      subst (λ (y : Node). In ys y) (sym s.3 ∙ r.2) (in_at ys s.0 d lt)
 
   fro_swapped : (e : Node) → In ys e → In xs e
   fro_swapped e p =
       let r = at_in ys e d p in
       let s = source r.0 in
       let lt : r.0 < length xs = omega (arith, r.1, len) in
-      subst (λ (y : Node). In xs y) (sym s.2 ∙ r.2) (in-at xs s.0 d (source_below r.0 s.0 s.1 lt))
+      subst (λ (y : Node). In xs y) (sym s.2 ∙ r.2) (in_at xs s.0 d (source_below r.0 s.0 s.1 lt))
 
   spread_swapped : Spread xs → Spread ys
   spread_swapped h =

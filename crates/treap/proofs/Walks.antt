@@ -9,7 +9,7 @@ use Rattle.treap.specs.Draws.{Window, Sees, Touches, Seen, Falls, LastOver, Best
 use Rattle.treap.specs.Searches.{Node, tree, child, Share, Spread}
 use Rattle.treap.proofs.Ranks.{irrefl, irrefl_eq, trans, asym, tri}
 use Rattle.treap.proofs.Shown.{below, split, hangs, lawful_quadrant, within_quadrant, shown_holds, root_over}
-use Rattle.treap.proofs.Lists.{in-first, in-last, in-append, apart_shorter}
+use Rattle.treap.proofs.Lists.{in_first, in_last, in_append, apart_shorter}
 use Rattle.treap.proofs.Bests.{Chain, chain_from_falls, last_over_all}
 use Rattle.treap.proofs.Needed.{Reaches, Wanted, Numbered, not_both, part_lawful, touches_up, wanted_is_needed, wanted_is_enough}
 use Rattle.treap.proofs.Counted.{part_of_part}
@@ -127,10 +127,10 @@ part_shown (deeper {r = r} {i = i} {m = m} {a = a} {b = b} {c = c} {d = d} p q) 
 
 -- the numbers of a part are numbers of the whole
 pub numbers_quadrant : (i : ℕ) (m : Spot) (a b c d : Tree) (q : Quadrant) (n : ℕ) → In (numbers (pick a b c d q)) n → In (numbers a ++ (numbers b ++ (numbers c ++ numbers d))) n
-numbers_quadrant i m a b c d tl n p = in-first (numbers a) _ n p
-numbers_quadrant i m a b c d tr n p = in-last (numbers a) _ n (in-first (numbers b) _ n p)
-numbers_quadrant i m a b c d bl n p = in-last (numbers a) _ n (in-last (numbers b) _ n (in-first (numbers c) _ n p))
-numbers_quadrant i m a b c d br n p = in-last (numbers a) _ n (in-last (numbers b) _ n (in-last (numbers c) _ n p))
+numbers_quadrant i m a b c d tl n p = in_first (numbers a) _ n p
+numbers_quadrant i m a b c d tr n p = in_last (numbers a) _ n (in_first (numbers b) _ n p)
+numbers_quadrant i m a b c d bl n p = in_last (numbers a) _ n (in_last (numbers b) _ n (in_first (numbers c) _ n p))
+numbers_quadrant i m a b c d br n p = in_last (numbers a) _ n (in_last (numbers b) _ n (in_last (numbers c) _ n p))
 
 pub part_numbers : {s : Square} {t : Tree} {r : Square} {u : Tree} → Part s t r u → (n : ℕ) → In (numbers u) n → In (numbers t) n
 part_numbers whole n h = h
@@ -207,7 +207,7 @@ last_over_from_all k (x ∷ y ∷ l) m h f = last_over_from_all k (y ∷ l) m (o
 
 pub spread_joined : (l r : List Node) → Spread l → Spread r → ((e f : Node) → In l e → In r f → Share e.square f.square → ⊥) → Spread (l ++ r)
 spread_joined [] r hl hr f = hr
-spread_joined (x ∷ l) r hl hr f = (λ g p. cases g (in-append l r g p), spread_joined l r hl.1 hr (λ e g p. f e g (inr p)))
+spread_joined (x ∷ l) r hl hr f = (λ g p. cases g (in_append l r g p), spread_joined l r hl.1 hr (λ e g p. f e g (inr p)))
   where
     cases : (g : Node) → In l g ⊎ In r g → Share x.square g.square → ⊥
     cases g (inl p) = hl.0 g p
@@ -273,14 +273,14 @@ module _ (k : Kind) (L : Laws k) (s : Square) (t : Tree) (h : Ordered k s t) (w 
       go (inr (inr x)) = absurd (best e p x)
 
   next_below : (e : Node) → In (kids ++ wait) e → Outranks k f.mark e.mark
-  next_below e p = go (in-append kids wait e p)
+  next_below e p = go (in_append kids wait e p)
     where
       go : In kids e ⊎ In wait e → Outranks k f.mark e.mark
       go (inl x) = (kid_below e x).1
       go (inr x) = wait_below e x
 
   next_parts : (e : Node) → In (kids ++ wait) e → Part s t e.square (tree e) × Touches e.square w
-  next_parts e p = go (in-append kids wait e p)
+  next_parts e p = go (in_append kids wait e p)
     where
       go : In kids e ⊎ In wait e → Part s t e.square (tree e) × Touches e.square w
       go (inl x) = (kid_part e x, (K.are e x).3)
@@ -315,7 +315,7 @@ module _ (k : Kind) (L : Laws k) (s : Square) (t : Tree) (h : Ordered k s t) (w 
   under_kid e q none eq hu p v = absurd (no_part p tt)
   under_kid e q (box i m a b c d) eq hu p v =
       let g : Node = record { square = quadrant q f.square; number = i; mark = m; a = a; b = b; c = c; d = d } in
-      (g, in-first kids wait g (K.all g q refl eq (touches_part k w p hu tt v)), p)
+      (g, in_first kids wait g (K.all g q refl eq (touches_part k w p hu tt v)), p)
 
   step_cover : (e : Node) → Part s t e.square (tree e) → Touches e.square w → In (f ∷ done) e ⊎ ((g : Node) × In (kids ++ wait) g × Part g.square (tree g) e.square (tree e))
   step_cover e p v = go (walk.cover e p v)
@@ -327,7 +327,7 @@ module _ (k : Kind) (L : Laws k) (s : Square) (t : Tree) (h : Ordered k s t) (w 
 
       at : (g : Node) → In (f ∷ wait) g → Part g.square (tree g) e.square (tree e) → In (f ∷ done) e ⊎ ((g : Node) × In (kids ++ wait) g × Part g.square (tree g) e.square (tree e))
       at g (inl x) z = at_f (part_first (subst (λ (y : Node). Part y.square (tree y) e.square (tree e)) x z))
-      at g (inr x) z = inr (g, in-last kids wait g x, z)
+      at g (inr x) z = inr (g, in_last kids wait g x, z)
 
       go : In done e ⊎ ((g : Node) × In (f ∷ wait) g × Part g.square (tree g) e.square (tree e)) → In (f ∷ done) e ⊎ ((g : Node) × In (kids ++ wait) g × Part g.square (tree g) e.square (tree e))
       go (inl x) = inl (inr x)
@@ -358,7 +358,7 @@ search_lists k L s t h w n done wait l f kids st few best K seen = (
         subst (λ (y : Spot). Outranks k y f.mark) (sym r.2) (st.0.above r.0 f r.1 (inl refl))
 
     listed : (x : Spot) → In (l ++ (f.mark ∷ [])) x → (e : Node) × In (f ∷ done) e × (x ≡ e.mark) × Sees w x.row x.col
-    listed x p = go (in-append l (f.mark ∷ []) x p)
+    listed x p = go (in_append l (f.mark ∷ []) x p)
       where
         go : In l x ⊎ In (f.mark ∷ []) x → (e : Node) × In (f ∷ done) e × (x ≡ e.mark) × Sees w x.row x.col
         go (inl y) = let r = st.1.listed x y in (r.0, inr r.1, r.2, r.3)
@@ -366,8 +366,8 @@ search_lists k L s t h w n done wait l f kids st few best K seen = (
         go (inr (inr y)) = absurd y
 
     all : (e : Node) → In (f ∷ done) e → Sees w e.mark.row e.mark.col → In (l ++ (f.mark ∷ [])) e.mark
-    all e (inl x) v = in-last l (f.mark ∷ []) e.mark (inl (ap (λ (y : Node). y.mark) x))
-    all e (inr x) v = in-first l (f.mark ∷ []) e.mark (st.1.all e x v)
+    all e (inl x) v = in_last l (f.mark ∷ []) e.mark (inl (ap (λ (y : Node). y.mark) x))
+    all e (inr x) v = in_first l (f.mark ∷ []) e.mark (st.1.all e x v)
 
     last : length (l ++ (f.mark ∷ [])) ≡ n → (e : Node) → In (f ∷ done) e → Reaches k (l ++ (f.mark ∷ [])) e.mark
     last _ e (inl x) = reaches_push k l f.mark e.mark (inl (ap (λ (y : Node). y.mark) x))
@@ -418,26 +418,26 @@ firsts_pairs (box i m a b c d) =
     let ed = firsts_pairs d in
     simp (firsts_append, ea, eb, ec, ed)
 
-in-firsts : (l : List (ℕ × Spot)) (p : ℕ × Spot) → In l p → In (firsts l) p.0
+in_firsts : (l : List (ℕ × Spot)) (p : ℕ × Spot) → In l p → In (firsts l) p.0
 unfolding firsts
-in-firsts [] p h = h
-in-firsts (q ∷ l) p (inl e) = inl (ap (λ (z : ℕ × Spot). z.0) e)
-in-firsts (q ∷ l) p (inr h) = inr (in-firsts l p h)
+in_firsts [] p h = h
+in_firsts (q ∷ l) p (inl e) = inl (ap (λ (z : ℕ × Spot). z.0) e)
+in_firsts (q ∷ l) p (inr h) = inr (in_firsts l p h)
 
 one_pair : (l : List (ℕ × Spot)) → Apart (firsts l) → (p q : ℕ × Spot) → In l p → In l q → p.0 ≡ q.0 → p.1 ≡ q.1
 unfolding firsts
 one_pair [] h p q hp hq e = absurd hp
 one_pair (r ∷ l) h p q (inl x) (inl y) e = ap (λ (z : ℕ × Spot). z.1) (x ∙ sym y)
-one_pair (r ∷ l) h p q (inl x) (inr y) e = absurd (h.0 (subst (λ (z : ℕ). In (firsts l) z) (sym e ∙ ap (λ (z : ℕ × Spot). z.0) x) (in-firsts l q y)))
-one_pair (r ∷ l) h p q (inr x) (inl y) e = absurd (h.0 (subst (λ (z : ℕ). In (firsts l) z) (e ∙ ap (λ (z : ℕ × Spot). z.0) y) (in-firsts l p x)))
+one_pair (r ∷ l) h p q (inl x) (inr y) e = absurd (h.0 (subst (λ (z : ℕ). In (firsts l) z) (sym e ∙ ap (λ (z : ℕ × Spot). z.0) x) (in_firsts l q y)))
+one_pair (r ∷ l) h p q (inr x) (inl y) e = absurd (h.0 (subst (λ (z : ℕ). In (firsts l) z) (e ∙ ap (λ (z : ℕ × Spot). z.0) y) (in_firsts l p x)))
 one_pair (r ∷ l) h p q (inr x) (inr y) e = one_pair l h.1 p q x y e
 
 pairs_quadrant : (i : ℕ) (m : Spot) (a b c d : Tree) (q : Quadrant) (x : ℕ × Spot) → In (pairs (pick a b c d q)) x → In (pairs (box i m a b c d)) x
 unfolding pairs
-pairs_quadrant i m a b c d tl x h = inr (in-first _ _ x h)
-pairs_quadrant i m a b c d tr x h = inr (in-last (pairs a) _ x (in-first _ _ x h))
-pairs_quadrant i m a b c d bl x h = inr (in-last (pairs a) _ x (in-last (pairs b) _ x (in-first _ _ x h)))
-pairs_quadrant i m a b c d br x h = inr (in-last (pairs a) _ x (in-last (pairs b) _ x (in-last (pairs c) _ x h)))
+pairs_quadrant i m a b c d tl x h = inr (in_first _ _ x h)
+pairs_quadrant i m a b c d tr x h = inr (in_last (pairs a) _ x (in_first _ _ x h))
+pairs_quadrant i m a b c d bl x h = inr (in_last (pairs a) _ x (in_last (pairs b) _ x (in_first _ _ x h)))
+pairs_quadrant i m a b c d br x h = inr (in_last (pairs a) _ x (in_last (pairs b) _ x (in_last (pairs c) _ x h)))
 
 pairs_part : {s : Square} {t : Tree} {r : Square} {u : Tree} → Part s t r u → (x : ℕ × Spot) → In (pairs u) x → In (pairs t) x
 pairs_part whole x h = h
@@ -460,10 +460,10 @@ length_names : (l : List Node) → length (names l) ≡ length l
 length_names [] = refl
 length_names (e ∷ l) = ap suc (length_names l)
 
-in-names : (l : List Node) (e : Node) → In l e → In (names l) e.number
-in-names [] e h = h
-in-names (f ∷ l) e (inl x) = inl (ap (λ (z : Node). z.number) x)
-in-names (f ∷ l) e (inr x) = inr (in-names l e x)
+in_names : (l : List Node) (e : Node) → In l e → In (names l) e.number
+in_names [] e h = h
+in_names (f ∷ l) e (inl x) = inl (ap (λ (z : Node). z.number) x)
+in_names (f ∷ l) e (inr x) = inr (in_names l e x)
 
 from_names : (l : List Node) (i : ℕ) → In (names l) i → (e : Node) × In l e × (e.number ≡ i)
 from_names [] i h = absurd h
@@ -594,7 +594,7 @@ search_ends k L s t h lone ap' w n pos done wait l st end =
         never z (inr reach) = not_both k L l m reach (last_over_from_all k l m (omega arith) z.1)
 
         go : In done e ⊎ ((g : Node) × In wait g × Part g.square (tree g) r (box i m a b c d)) → In (names done) i
-        go (inl y) = in-names done e y
+        go (inl y) = in_names done e y
         go (inr y) = absurd (never (waits e y.0 y.1 y.2) v.1)
 
     least : (S : List ℕ) → Justifies k s t w n l S → length done ≤ length S

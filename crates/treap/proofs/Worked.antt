@@ -5,7 +5,7 @@ use Rattle.grade.specs.Kind.{Laws}
 use Rattle.grade.specs.Kinds.{points}
 use Rattle.treap.specs.Spots.{Spot, Outranks}
 use Rattle.treap.specs.Trees.{Square, Tree, none, box, Holds, Ordered, Shows, In, Apart, numbers}
-use Rattle.treap.specs.Plants.{outranks, in-square}
+use Rattle.treap.specs.Plants.{outranks, in_square}
 use Rattle.treap.specs.Entries.{plan_square}
 use Rattle.treap.specs.Draws.{Window, Sees, Seen, Falls, LastOver, Best, cell, Draws}
 use Rattle.treap.specs.Worked.{mark, window, trial_boxes, TrialDraws}
@@ -32,7 +32,7 @@ points_laws = record {
 over : (m n : Spot) → outranks points m n ≡ true → Outranks points m n
 over m n e = (decides_outranks points m n).0 e
 
-holds : (s : Square) (m : Spot) → points.is_code m.grade ≡ true → in-square s m ≡ true → Holds points s m
+holds : (s : Square) (m : Spot) → points.is_code m.grade ≡ true → in_square s m ≡ true → Holds points s m
 holds s m f e = record { fair = f; inside = (decides_in_square s m).0 e }
 
 boxes_ordered : Ordered points (plan_square 2) trial_boxes

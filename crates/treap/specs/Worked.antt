@@ -44,24 +44,24 @@ tree_of l = plant points (plan_square l.level) (entries l)
 abbrev pub window : (top left bottom right : ℕ) → Window
 window top left bottom right = record { top = top; left = left; bottom = bottom; right = right }
 
---   in-level-order    the marks of the boxes in level order; the root holds the grade 9
+--   in_level_order    the marks of the boxes in level order; the root holds the grade 9
 --   entered           each of the five marks is entered
 --   listed            the ledger then has these marks
 --   planted           and the same tree
 --   struck            to strike a mark is answered by its grade
---   then-ordered      the boxes of the plan without that mark; the root holds the grade 7
+--   then_ordered      the boxes of the plan without that mark; the root holds the grade 7
 --   off_plan          refused: a cell off the plan
 --   taken             refused: a mark in a cell that has one
 --   vacant            refused: to strike in a cell that has none
 --   full              refused: a sixth mark, for want of a place
 pub record TrialPlan : Type 0 where
-  pub in-level-order :
+  pub in_level_order :
       marks_of (level_order 2 trial_tree) ≡ mark 0 3 9 ∷ mark 0 0 5 ∷ mark 2 1 7 ∷ mark 3 3 1 ∷ mark 1 1 5 ∷ []
   pub entered : answers (blank 2 5) (map enter trial_marks) ≡ done ∷ done ∷ done ∷ done ∷ done ∷ []
   pub listed : entries trial_ledger ≡ trial_marks
   pub planted : tree_of trial_ledger ≡ trial_tree
   pub struck : answer trial_ledger (strike 0 3) ≡ graded 9
-  pub then-ordered :
+  pub then_ordered :
       marks_of (level_order 2 (tree_of (next trial_ledger (strike 0 3)))) ≡ mark 2 1 7 ∷ mark 0 0 5 ∷ mark 3 3 1 ∷ mark 1 1 5 ∷ []
   pub off_plan : answer trial_ledger (enter (mark 4 0 1)) ≡ refused 4
   pub taken : answer trial_ledger (enter (mark 1 1 8)) ≡ refused 5

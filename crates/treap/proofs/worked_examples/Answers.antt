@@ -7,12 +7,12 @@ returns c =
     record {
       plan =
           record {
-            in-level-order = refl;
+            in_level_order = refl;
             entered = refl;
             listed = refl;
             planted = refl;
             struck = refl;
-            then-ordered = refl;
+            then_ordered = refl;
             off_plan = refl;
             taken = refl;
             vacant = refl;

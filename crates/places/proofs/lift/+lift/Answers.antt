@@ -5,7 +5,7 @@ use Rattle.boxtree.specs.Squares.{square_of}
 use Rattle.places.specs.Squares.{quadrant_of}
 use Rattle.places.specs.Places.{cells, cell_of}
 use Rattle.places.specs.Standing.{tree_in}
-use Rattle.places.proofs.Descent.{in-places, at_place, part_falls, below_limit}
+use Rattle.places.proofs.Descent.{in_places, at_place, part_falls, below_limit}
 use Rattle.places.proofs.Lifting.{lift_here, lift_deep, lift_inside, lift_asks, lift_link, lift_does}
 use Rattle.places.proofs.lift.+lift.Goals as goal
 
@@ -13,7 +13,7 @@ pub returns-in-None : goal.returns-in-None
 returns-in-None g t c = absurd (subst (λ (o : Option _). Shows (tree_in (square_of c.args.square) (cells g.G.Grade.coded c.args.places.now) o) (spot_of g.G.Grade.coded c.args.mark)) c.in-None.is c.requires.shown)
 
 pub read-here-requires : goal.read-here-requires
-read-here-requires g t c = in-places g.G.Grade.kind (square_of c.args.square) _ (cells g.G.Grade.coded c.args.places.now) _ _ c.in-Some.is c.requires.stands
+read-here-requires g t c = in_places g.G.Grade.kind (square_of c.args.square) _ (cells g.G.Grade.coded c.args.places.now) _ _ c.in-Some.is c.requires.stands
 
 pub pull-requires : goal.pull-requires
 pull-requires g t c =
@@ -72,7 +72,7 @@ relinked-requires g t c =
 
 pub write-requires : goal.write-requires
 write-requires g t c =
-    let low = in-places g.G.Grade.kind (square_of c.args.square) _ (cells g.G.Grade.coded c.args.places.now) _ _ c.in-Some.is c.requires.stands in
+    let low = in_places g.G.Grade.kind (square_of c.args.square) _ (cells g.G.Grade.coded c.args.places.now) _ _ c.in-Some.is c.requires.stands in
     omega (arith, low, c.lift-freed.auto.places)
 
 pub returns-then-stands-in : goal.returns-then-stands-in

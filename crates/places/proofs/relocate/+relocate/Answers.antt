@@ -4,7 +4,7 @@ use Rattle.boxtree.specs.Squares.{square_of}
 use Rattle.places.specs.Squares.{quadrant_of}
 use Rattle.places.specs.Places.{cells, cell_of}
 use Rattle.places.specs.Standing.{tree_in}
-use Rattle.places.proofs.Descent.{in-places, part_falls, below_limit}
+use Rattle.places.proofs.Descent.{in_places, part_falls, below_limit}
 use Rattle.places.proofs.Moving.{move_here, move_deep, move_inside, move_asks, move_link, move_does}
 use Rattle.places.proofs.relocate.+relocate.Goals as goal
 
@@ -13,7 +13,7 @@ returns-in-None g t c =
     absurd (omega (arith, c.requires.moves.held_once, ap (λ (o : Option ℕ). held c.args.from (tree_in (square_of c.args.square) (cells g.G.Grade.coded c.args.places.now) o)) c.in-None.is))
 
 pub read-here-requires : goal.read-here-requires
-read-here-requires g t c = in-places g.G.Grade.kind (square_of c.args.square) _ (cells g.G.Grade.coded c.args.places.now) _ _ c.in-Some.is c.requires.moves.stands
+read-here-requires g t c = in_places g.G.Grade.kind (square_of c.args.square) _ (cells g.G.Grade.coded c.args.places.now) _ _ c.in-Some.is c.requires.moves.stands
 
 pub write-requires : goal.write-requires
 write-requires g t c = c.requires.moves.room
@@ -67,7 +67,7 @@ relinked-requires g t c =
 
 pub write-requires-else-i-from : goal.write-requires-else-i-from
 write-requires-else-i-from g t c =
-    let low = in-places g.G.Grade.kind (square_of c.args.square) _ (cells g.G.Grade.coded c.args.places.now) _ _ c.in-Some.is c.requires.moves.stands in
+    let low = in_places g.G.Grade.kind (square_of c.args.square) _ (cells g.G.Grade.coded c.args.places.now) _ _ c.in-Some.is c.requires.moves.stands in
     omega (arith, low, c.relocate-below.auto.places)
 
 pub returns-then-i-from : goal.returns-then-i-from

@@ -3,12 +3,12 @@ use Rattle.boxtree.specs.Marks.{spots_of}
 use Rattle.boxtree.specs.Squares.{square_of}
 use Rattle.places.specs.Squares.{quadrant_of}
 use Rattle.places.specs.Places.{cells, cell_of}
-use Rattle.places.proofs.Descent.{in-places, part_falls}
+use Rattle.places.proofs.Descent.{in_places, part_falls}
 use Rattle.places.proofs.Seeking.{found_here, seek_deep, seek_asks, found_below}
 use Rattle.places.proofs.seek.+seek.Goals as goal
 
 pub read-here-requires : goal.read-here-requires
-read-here-requires g t c = in-places g.G.Grade.kind (square_of c.args.square) _ (cells g.G.Grade.coded c.args.places.now) _ _ c.in-Some.is c.requires.stands
+read-here-requires g t c = in_places g.G.Grade.kind (square_of c.args.square) _ (cells g.G.Grade.coded c.args.places.now) _ _ c.in-Some.is c.requires.stands
 
 pub quadrant-at-q-requires : goal.quadrant-at-q-requires
 quadrant-at-q-requires g t c =

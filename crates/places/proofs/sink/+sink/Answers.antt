@@ -3,12 +3,12 @@ use Rattle.boxtree.specs.Marks.{spot_of}
 use Rattle.boxtree.specs.Squares.{square_of}
 use Rattle.places.specs.Squares.{quadrant_of}
 use Rattle.places.specs.Places.{cells, cell_of}
-use Rattle.places.proofs.Descent.{in-places, part_falls}
+use Rattle.places.proofs.Descent.{in_places, part_falls}
 use Rattle.places.proofs.Sinking.{sunk_first, sink_deep, sink_inside, sink_asks, sink_link, sink_does}
 use Rattle.places.proofs.sink.+sink.Goals as goal
 
 pub read-here-requires : goal.read-here-requires
-read-here-requires g t c = in-places g.G.Grade.kind (square_of c.args.square) _ (cells g.G.Grade.coded c.args.places.now) _ _ c.in-Some.is c.requires.sinks.stands
+read-here-requires g t c = in_places g.G.Grade.kind (square_of c.args.square) _ (cells g.G.Grade.coded c.args.places.now) _ _ c.in-Some.is c.requires.sinks.stands
 
 pub quadrant-at-q-requires : goal.quadrant-at-q-requires
 quadrant-at-q-requires g t c =
@@ -60,7 +60,7 @@ relinked-requires g t c =
 
 pub write-requires-in-Some : goal.write-requires-in-Some
 write-requires-in-Some g t c =
-    let low = in-places g.G.Grade.kind (square_of c.args.square) _ (cells g.G.Grade.coded c.args.places.now) _ _ c.in-Some.is c.requires.sinks.stands in
+    let low = in_places g.G.Grade.kind (square_of c.args.square) _ (cells g.G.Grade.coded c.args.places.now) _ _ c.in-Some.is c.requires.sinks.stands in
     omega (arith, low, c.sink_below.auto.places)
 
 pub returns-in-None : goal.returns-in-None
