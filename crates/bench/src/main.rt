@@ -1,6 +1,7 @@
 //! The program `bench`: fills a plan of side 1024 from a fixed generator, draws windows from it, and prints the totals.
 //!
 //! Its first argument is the number of marks. With the second argument `time` it also prints the microseconds of a draw.
+#![tactic(auto)]
 ghost use Rattle.std.specs.Prelude.{◌≡◌, ℕ, ◌+◌, ◌*◌, ◌/◌, ◌%◌, ◌^◌, ◌<◌, ◌≤◌, length};
 ghost use Rattle.grade.specs.Kinds.{points};
 ghost use Rattle.plan.specs.Plans.{Sound};

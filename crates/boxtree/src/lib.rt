@@ -1,4 +1,6 @@
 //! Box trees: what they are made of, and what is asked of one.
+#![tactic(auto)]
+
 pub mod mark;
 pub mod refusal;
 pub mod square;

@@ -1,4 +1,6 @@
 //! Grade kinds: what every kind of grade answers, and the two kinds there are.
+#![tactic(auto)]
+
 ghost use Rattle.std.specs.Prelude.{◌≡◌, ℕ, true, if◌then◌else◌, Some, None};
 ghost use Rattle.grade.specs.Kind.{Kind, Laws, codes, checked};
 

@@ -5,10 +5,10 @@ use Rattle.treap.specs.Spots.{Spot}
 use Rattle.treap.specs.Sums.{one_if, grade_in}
 use Rattle.treap.specs.Ledgers.{Call, look, graded, vacant, refused, open_refusal, answer, answer_as, next, next_as}
 use Rattle.treap.proofs.Cells.{shown_graded, free_ungraded}
-use Rattle.places.specs.declared.place.Place.{Place}
+use Rattle.plan.specs.declared.place.Place.{Place}
 use Rattle.plan.specs.declared.refusal.PlanRefusal.{PlanRefusal}
 use Rattle.plan.specs.Refusals.{refusal_number}
-use Rattle.places.specs.Standing.{Found}
+use Rattle.plan.specs.Standing.{Found}
 use Rattle.plan.specs.Plans.{plan_tree, Shape, ledger_at, on_plan, TurnedDown}
 
 module _ {G : Type 0} (kind : Kind) (code : G → ℕ) (h n : ℕ) (ps : List (Place G)) (s : Shape kind code h n ps) where

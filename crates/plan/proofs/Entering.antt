@@ -10,9 +10,9 @@ use Rattle.treap.specs.Entries.{plan_square}
 use Rattle.treap.specs.Changes.{Gains}
 use Rattle.treap.proofs.Counts.{at_cell_is}
 use Rattle.treap.proofs.Cells.{shown_graded, free_ungraded, gained, count_sum}
-use Rattle.places.specs.declared.place.Place.{Place}
-use Rattle.places.specs.Places.{cells}
-use Rattle.places.specs.Standing.{tree_in, Found, Sinks, Sunk, place_or}
+use Rattle.plan.specs.declared.place.Place.{Place}
+use Rattle.plan.specs.Places.{cells}
+use Rattle.plan.specs.Standing.{tree_in, Found, Sinks, Sunk, place_or}
 use Rattle.plan.specs.Plans.{root, plan_tree, Shape, ledger_at, on_plan, Done}
 use Rattle.plan.proofs.Shapes.{inside_whole, stands_whole, marks_counted, one_more}
 

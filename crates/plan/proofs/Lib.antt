@@ -1,6 +1,14 @@
-pub mod Shapes
-mod Boxes
+mod Ranking
+mod Descent
+mod Cells
+mod Seeking
+mod Sinking
+mod Choosing
+mod Lifting
+mod Moving
+mod Shapes
 mod Entering
 mod Striking
 mod Regrading
 mod Calls
+mod Running

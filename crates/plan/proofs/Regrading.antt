@@ -4,7 +4,7 @@ use borrow.Author.Tests.{lt-leb}
 use Rattle.grade.specs.Kind.{Kind, Laws}
 use Rattle.treap.specs.Spots.{Spot}
 use Rattle.treap.specs.Ledgers.{Ledger, enter, regrade, strike, refusal, off, taken, full, entries, set_cell}
-use Rattle.places.specs.declared.place.Place.{Place}
+use Rattle.plan.specs.declared.place.Place.{Place}
 use Rattle.plan.specs.Plans.{Shape, ledger_at, Done}
 use Rattle.plan.proofs.Shapes.{marks_counted}
 

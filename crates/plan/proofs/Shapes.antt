@@ -10,10 +10,10 @@ use Rattle.treap.proofs.Counts.{one_if_le, both_true}
 use Rattle.treap.proofs.Cells.{alone_lone}
 use Rattle.treap.proofs.Numbers.{single_apart}
 use Rattle.treap.proofs.Entries.{ledger_tree_lem}
-use Rattle.places.specs.declared.place.Place.{Place}
-use Rattle.places.specs.Squares.{Fits}
-use Rattle.places.specs.Places.{cells}
-use Rattle.places.specs.Standing.{tree_in, Stands}
+use Rattle.plan.specs.declared.place.Place.{Place}
+use Rattle.plan.specs.Squares.{Fits}
+use Rattle.plan.specs.Places.{cells}
+use Rattle.plan.specs.Standing.{tree_in, Stands}
 use Rattle.plan.specs.Plans.{root, plan_tree, Shape, ledger_at, on_plan}
 
 side_fits : (h : ℕ) → h ≤ 10 → 0 + 2 ^ h ≤ 1024
@@ -56,7 +56,6 @@ module _ {G : Type 0} (kind : Kind) (code : G → ℕ) (h n : ℕ) (ps : List (P
         rows = side;
         cols = side;
         counted = omega (arith, s.counted);
-        small = omega (arith, s.room, s.few);
         ordered = s.ordered;
         lone = alone_lone (plan_tree code h n ps) s.alone;
         apart = single_apart (plan_tree code h n ps) (λ i. omega (arith, s.numbered i, one_if_le (ltb i n)));

@@ -9,9 +9,9 @@ use Rattle.treap.specs.Entries.{plan_square}
 use Rattle.treap.specs.Changes.{Loses}
 use Rattle.treap.proofs.Counts.{one_is, none_is, one_if_le}
 use Rattle.treap.proofs.Cells.{shown_graded, free_ungraded, lost, count_sum}
-use Rattle.places.specs.declared.place.Place.{Place}
-use Rattle.places.specs.Places.{cells}
-use Rattle.places.specs.Standing.{tree_in, Found, Lifted, Moves, Moved}
+use Rattle.plan.specs.declared.place.Place.{Place}
+use Rattle.plan.specs.Places.{cells}
+use Rattle.plan.specs.Standing.{tree_in, Found, Lifted, Moves, Moved}
 use Rattle.plan.specs.Plans.{root, plan_tree, Shape, ledger_at, on_plan, Done}
 use Rattle.plan.proofs.Shapes.{one_more}
 

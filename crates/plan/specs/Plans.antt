@@ -13,12 +13,12 @@ use Rattle.treap.specs.Trees.{Tree, count, Ordered, Meaning}
 use Rattle.treap.specs.Sums.{one_if, held, Alone, ledger_of}
 use Rattle.treap.specs.Entries.{plan_square}
 use Rattle.treap.specs.Ledgers.{Ledger, Call, enter, regrade, strike, graded, refusal, accepted, changed}
-use Rattle.places.specs.declared.place.Place.{Place}
+use Rattle.plan.specs.declared.place.Place.{Place}
 use Rattle.plan.specs.declared.plan.Plan.{Plan}
 use Rattle.plan.specs.declared.refusal.PlanRefusal.{PlanRefusal}
 use Rattle.plan.specs.Refusals.{refusal_number}
-use Rattle.places.specs.Places.{cells}
-use Rattle.places.specs.Standing.{tree_in}
+use Rattle.plan.specs.Places.{cells}
+use Rattle.plan.specs.Standing.{tree_in}
 
 -- the place of the root
 abbrev pub root : ℕ → Option ℕ

@@ -5,22 +5,21 @@ ghost use Rattle.treap.specs.Trees.{Lawful, unnumbered};
 ghost use Rattle.treap.specs.Plants.{plant};
 ghost use Rattle.treap.specs.Entries.{plan_square};
 ghost use Rattle.treap.specs.Ledgers.{open_refusal, blank, entries};
-ghost use Rattle.places.specs.Standing.{Found};
+ghost use Rattle.plan.specs.Standing.{Found};
 ghost use Rattle.plan.specs.Plans.{root as root_at, plan_tree, Shape, shown_at, ledger_at, on_plan, Entered, Struck, Regraded};
 
+use crate::lift::lift;
+use crate::place::{Place, read};
 use crate::refusal::PlanRefusal;
+use crate::relocate::relocate;
+use crate::seek::seek;
+use crate::sink::sink;
+use crate::square::Square;
 use boxtree::mark::Mark;
-use boxtree::square::Square;
 use grade::Grade;
-use places::Place;
-use places::lift::lift;
-use places::place::read;
-use places::relocate::relocate;
-use places::seek::seek;
-use places::sink::sink;
 
 // The place of the root of a plan.
-pub(crate) fn root(count: u16) -> Option<u16>
+fn root(count: u16) -> Option<u16>
     ensures { result ≡ root_at count }
 {
     if count == 0 { None } else { Some(0) }

@@ -1,10 +1,20 @@
 //! Plans: marks on a square grid, entered, regraded, struck and looked up, in places lent by the caller.
-mod change;
-pub mod plan;
-pub mod refusal;
-pub mod tree;
+#![tactic(auto)]
 
-pub use places::Place;
+mod change;
+mod lift;
+mod place;
+pub mod plan;
+mod rank;
+pub mod refusal;
+mod relocate;
+pub mod run;
+mod seek;
+mod sink;
+mod square;
+
+pub use place::Place;
 pub use plan::Plan;
 pub use plan::methods::check_open;
 pub use refusal::PlanRefusal;
+pub use run::{Answer, Call, carry_out};

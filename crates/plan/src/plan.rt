@@ -1,5 +1,5 @@
 //! A plan over places that its caller lends.
-use places::Place;
+use crate::place::Place;
 
 pub mod methods;
 

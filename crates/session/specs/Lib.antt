@@ -1,2 +1,2 @@
+-- The definitions that the contracts of `session` cite.
 pub mod Sessions
-pub mod Replies

@@ -1,17 +1,20 @@
 -- What a session answers: a plan of points that is opened, changed and looked at line by line.
 --
 --   Desk              whether a plan was opened yet, and its ledger
---   called_reply      how the answer of the plan to a call is told
+--   replied d c       the answer to the command c
 --   followed d c      the desk after the command c
+--   Answers d line r e
+--                     the line is answered by r, and leaves the desk e
 --   Unchanged s t r   the session t is s, where the answer r is a refusal
-use Rattle.std.specs.Prelude.{◌≡◌, ℕ, Bool, true, cond, Some, None, Option}
+use Rattle.std.specs.Prelude.{◌≡◌, ℕ, Bool, true, cond, List, Some, None, Option}
 use Rattle.treap.specs.Spots.{Spot}
 use Rattle.treap.specs.Ledgers as ledgers
 use Rattle.plan.specs.Plans.{ledger}
+use Rattle.book.specs.Grammar.{Says}
 use Rattle.book.specs.declared.command.Command.{Command}
 use Rattle.book.specs.declared.command.Command.TheVariants.{New, Enter, Regrade, Strike, Look, Draw}
 use Rattle.book.specs.declared.reply.Reply.{Reply}
-use Rattle.book.specs.declared.reply.Reply.TheVariants.{Done, Grade, Vacant, Drawn, No}
+use Rattle.book.specs.declared.reply.Reply.TheVariants.{Done, Grade, Vacant, No}
 use Rattle.session.specs.declared.session.Session.{Session}
 
 pub record Desk : Type 0 where
@@ -43,9 +46,14 @@ abbrev pub opened_reply : Option ℕ → Reply
 opened_reply None = Done
 opened_reply (Some n) = No n
 
--- before the first plan is opened a call on it is refused
-abbrev pub called_reply : Desk → (ledgers.Answer → Reply) → ledgers.Call → Reply
-called_reply d told c = cond d.started (told (ledgers.answer d.ledger c)) (No 24)
+-- before the first plan is opened a command on it is refused
+abbrev pub replied : Desk → Command → Reply
+replied d (New h) = opened_reply (ledgers.open_refusal h d.ledger.places)
+replied d (Enter row col grade) = cond d.started (reply_of (ledgers.answer d.ledger (ledgers.enter (mark_at row col grade)))) (No 24)
+replied d (Regrade row col grade) = cond d.started (reply_of (ledgers.answer d.ledger (ledgers.regrade (mark_at row col grade)))) (No 24)
+replied d (Strike row col) = cond d.started (struck_reply (ledgers.answer d.ledger (ledgers.strike row col))) (No 24)
+replied d (Look row col) = cond d.started (reply_of (ledgers.answer d.ledger (ledgers.look row col))) (No 24)
+replied d (Draw top left bottom right k) = No 24
 
 -- the desk after a call on the plan
 abbrev pub called : Desk → ledgers.Call → Desk
@@ -64,12 +72,15 @@ followed d (Strike row col) = called d (ledgers.strike row col)
 followed d (Look row col) = d
 followed d (Draw top left bottom right k) = d
 
+pub record Answers (d : Desk) (line : List ℕ) (r : Reply) (e : Desk) : Type 0 where
+  pub usable : (c : Command) → Says line c → (r ≡ replied d c) × (e ≡ followed d c)
+  pub unusable : ((c : Command) → Says line c → ⊥) → (r ≡ No 24) × (e ≡ d)
+
 -- a refused line leaves the session as it was
 abbrev pub Unchanged : Session → Session → Reply → Type 0
 Unchanged s t Done = Unit {0}
 Unchanged s t (Grade g) = Unit {0}
 Unchanged s t Vacant = Unit {0}
-Unchanged s t (Drawn listed opened) = Unit {0}
 Unchanged s t (No n) =
     (t.started ≡ s.started)
     × (t.plan.h ≡ s.plan.h)

@@ -3,14 +3,11 @@ ghost use Rattle.std.specs.Prelude.{◌≡◌, ℕ, false, length, None};
 ghost use Rattle.grade.specs.Kinds.{points};
 ghost use Rattle.treap.specs.Ledgers.{open_refusal, blank};
 ghost use Rattle.plan.specs.Plans.{Sound};
-ghost use Rattle.session.specs.Sessions.{desk, followed, Unchanged};
-ghost use Rattle.session.specs.Replies.{Told, Answers};
+ghost use Rattle.session.specs.Sessions.{desk, replied, followed, Answers, Unchanged};
 
 use crate::session::Session;
 use book::{Command, Reply, Unusable, parse};
 use boxtree::mark::Mark;
-use boxtree::window::Window;
-use draw::Entry;
 use grade::points::Points;
 use plan::{Place, Plan, check_open};
 
@@ -30,16 +27,11 @@ impl<'a> Session<'a> {
 
 impl Session<'_> {
     /// The answer to a command. Before the first plan is opened, any command but opening one is refused; a plan that cannot be
-    /// opened leaves the one before it. The marks of a draw stand in the first places of the list.
-    pub fn obey(
-        &mut self,
-        command: Command,
-        queue: &mut [Entry<Points>],
-        list: &mut [Mark<Points>],
-    ) -> Reply
+    /// opened leaves the one before it.
+    pub fn obey(&mut self, command: Command) -> Reply
         requires { Sound points (λ p. p.value) self.old.plan }
         ensures sound { Sound points (λ p. p.value) self.new.plan }
-        ensures answered { Told queue.old queue.new list.old list.new self.old command result }
+        ensures answered { result ≡ replied (desk self.old) command }
         ensures followed { desk self.new ≡ followed (desk self.old) command }
         ensures kept { Unchanged self.old self.new result }
     {
@@ -99,38 +91,19 @@ impl Session<'_> {
                     Err(e) => Reply::No(e.number()),
                 }
             }
-            Command::Draw {
-                top,
-                left,
-                bottom,
-                right,
-                k,
-            } => {
-                let window = Window {
-                    top,
-                    left,
-                    bottom,
-                    right,
-                };
-                self.draw(window, k, queue, list)
-            }
+            Command::Draw { .. } => Reply::No(Unusable.number()),
         }
     }
 
     /// The answer to a line.
-    pub fn answer(
-        &mut self,
-        line: &[u8],
-        queue: &mut [Entry<Points>],
-        list: &mut [Mark<Points>],
-    ) -> Reply
+    pub fn answer(&mut self, line: &[u8]) -> Reply
         requires { Sound points (λ p. p.value) self.old.plan }
         ensures sound { Sound points (λ p. p.value) self.new.plan }
-        ensures answered { Answers queue.old queue.new list.old list.new self.old line.now result self.new }
+        ensures answered { Answers (desk self.old) line.now result (desk self.new) }
         ensures kept { Unchanged self.old self.new result }
     {
         match parse(line) {
-            Ok(command) => self.obey(command, queue, list),
+            Ok(command) => self.obey(command),
             Err(refusal) => Reply::No(refusal.number()),
         }
     }

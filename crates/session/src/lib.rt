@@ -1,6 +1,6 @@
-//! Sessions: a plan of points, opened, changed and drawn from line by line.
+//! Sessions: a plan of points, opened and changed line by line.
+#![tactic(auto)]
 mod answer;
-mod draw;
 mod session;
 
 pub use session::Session;

@@ -1,4 +1,5 @@
 //! Tallies of draws.
+#![tactic(auto)]
 mod tally;
 
 pub use tally::{Tally, TallyFull};

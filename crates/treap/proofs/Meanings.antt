@@ -127,7 +127,6 @@ module _ (k : Kind) (L : Laws k) (g : ℕ) where
         rows = h.rows;
         cols = h.cols;
         counted = let c = count_floor m.tree in let b = h.counted in omega arith;
-        small = h.small;
         ordered = f.0;
         lone = λ x y p q. h.lone x y (f.1 x p).0 (f.1 y q).0;
         apart = f.3 h.apart;
@@ -190,7 +189,6 @@ module _ (r c : ℕ) where
         rows = f.0;
         cols = f.1;
         counted = rw (count_moved m.tree) h.counted;
-        small = h.small;
         ordered = v.0;
         lone = λ x y p q er ec.
             let a = v.2 x p in

@@ -137,7 +137,6 @@ pub record Lawful (k : Kind) (m : Meaning) : Type 0 where
   pub rows : m.square.top + 2 ^ m.square.level ≤ 65536
   pub cols : m.square.left + 2 ^ m.square.level ≤ 65536
   pub counted : count m.tree ≤ m.ceiling
-  pub small : m.ceiling ≤ 65535
   pub ordered : Ordered k m.square m.tree
   pub lone : Lone m.tree
   pub apart : Apart (numbers m.tree)

@@ -1,4 +1,6 @@
 //! The theory of box trees. Each function carries one theorem as its contract.
+#![tactic(auto)]
+
 ghost use Rattle.treap.specs.Trees.{OneTree};
 ghost use Rattle.treap.specs.Plants.{SomeTree};
 ghost use Rattle.treap.specs.Entries.{LedgerTree, SameMarksSameTree};

@@ -6,8 +6,7 @@ ghost use Rattle.plan.specs.Plans.{Sound};
 use boxtree::mark::Mark;
 use grade::Grade;
 use grade::points::Points;
-use plan::Plan;
-use runs::{Answer, Call, call};
+use plan::{Answer, Call, Plan};
 use std::process::Abort;
 use std::test::Fail;
 
@@ -82,7 +81,7 @@ pub(crate) fn expect<G: Grade>(
     for i in 0..steps.len() {
         let wanted = step_at(steps, i);
         assert_eq!(rt;
-            in_numbers(call(plan, wanted.call)),
+            in_numbers(plan.call(wanted.call)),
             wanted.answer,
             "step {i}"
         );

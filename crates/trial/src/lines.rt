@@ -3,32 +3,32 @@ ghost use Rattle.grade.specs.Kinds.{points};
 ghost use Rattle.plan.specs.Plans.{Sound};
 
 use book::{Reply, first_line};
-use boxtree::mark::Mark;
-use draw::Entry;
 use grade::points::Points;
 use plan::Place;
 use session::Session;
 use std::process::Abort;
 use std::test::Fail;
 
-// Gives the session a line, with a queue of 8 places and a list of 4, and compares the answer with the one expected.
+// Gives the session a line and compares the answer with the one expected.
 fn told(rt: &impl Abort, session: &mut Session, line: &str, wanted: Reply)
     requires { Sound points (λ p. p.value) session.old.plan }
     ensures { Sound points (λ p. p.value) session.new.plan }
 {
-    let none = Points { value: 0 };
-    let mut queue = [Entry::vacant(none); 8];
-    let mut list = [Mark {
-        row: 0,
-        col: 0,
-        grade: none,
-    }; 4];
-    assert_eq!(rt;
-        session.answer(line.as_bytes(), &mut queue, &mut list),
-        wanted,
-        "{}",
-        line
-    );
+    assert_eq!(rt; session.answer(line.as_bytes()), wanted, "{}", line);
+}
+
+#[test]
+fn no_command_is_taken_before_a_plan_is_opened(rt: HostRuntime) {
+    let mut places = [Place::vacant(Points { value: 0 }); 256];
+    let mut session = Session::new(&mut places);
+    told(&rt, &mut session, "E 0 0 1", Reply::No(24));
+    told(&rt, &mut session, "L 0 0", Reply::No(24));
+    told(&rt, &mut session, "S 0 0", Reply::No(24));
+    told(&rt, &mut session, "G 0 0 1", Reply::No(24));
+    told(&rt, &mut session, "N 11", Reply::No(1));
+    told(&rt, &mut session, "L 0 0", Reply::No(24));
+    told(&rt, &mut session, "N 0", Reply::Done);
+    told(&rt, &mut session, "L 0 0", Reply::Vacant);
 }
 
 #[test]
@@ -44,13 +44,32 @@ fn a_refused_opening_keeps_the_plan(rt: HostRuntime) {
 }
 
 #[test]
-fn a_refused_draw_tells_the_first_reason(rt: HostRuntime) {
-    let mut places = [Place::vacant(Points { value: 0 }); 9];
+fn a_line_of_another_form_is_unusable(rt: HostRuntime) {
+    let mut places = [Place::vacant(Points { value: 0 }); 256];
     let mut session = Session::new(&mut places);
-    told(&rt, &mut session, "N 2", Reply::Done);
-    told(&rt, &mut session, "D 1 0 0 1 5", Reply::No(24));
-    told(&rt, &mut session, "D 1 0 0 1 0", Reply::No(19));
-    told(&rt, &mut session, "D 0 0 1 1 0", Reply::No(20));
+    told(&rt, &mut session, "N 10", Reply::Done);
+    told(&rt, &mut session, "", Reply::No(24));
+    told(&rt, &mut session, "e 1 1 1", Reply::No(24));
+    told(&rt, &mut session, "E  1 1 1", Reply::No(24));
+    told(&rt, &mut session, " E 1 1 1", Reply::No(24));
+    told(&rt, &mut session, "E 1 1 1 ", Reply::No(24));
+    told(&rt, &mut session, "E\t1\t1\t1", Reply::No(24));
+    told(&rt, &mut session, "E 1 1 1\r", Reply::No(24));
+    told(&rt, &mut session, "E 000001 1 1", Reply::No(24));
+    told(&rt, &mut session, "E 1 1 65536", Reply::No(24));
+    told(&rt, &mut session, "E 1 1", Reply::No(24));
+    told(&rt, &mut session, "É 1 1 1", Reply::No(24));
+    told(&rt, &mut session, "E 00001 00001 00007", Reply::Done);
+    told(&rt, &mut session, "L 1 1", Reply::Grade(7));
+}
+
+#[test]
+fn a_draw_is_read_and_refused(rt: HostRuntime) {
+    let mut places = [Place::vacant(Points { value: 0 }); 256];
+    let mut session = Session::new(&mut places);
+    told(&rt, &mut session, "N 1", Reply::Done);
+    told(&rt, &mut session, "D 0 0 1 1 1", Reply::No(24));
+    told(&rt, &mut session, "D 0 0 1 1 257", Reply::No(24));
 }
 
 #[test]

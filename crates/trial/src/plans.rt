@@ -5,8 +5,7 @@ use boxtree::mark::Mark;
 use grade::Grade;
 use grade::monument::Monument;
 use grade::points::Points;
-use plan::{Place, Plan, check_open};
-use runs::Call;
+use plan::{Call, Place, Plan, check_open};
 
 #[test]
 fn a_full_plan_takes_a_mark_after_a_strike(rt: HostRuntime) -> Result<(), Fail> {
@@ -227,7 +226,7 @@ fn a_plan_opened_again_has_no_marks(rt: HostRuntime) -> Result<(), Fail> {
     Ok(())
 }
 
-pub(crate) fn monument(row: u16, col: u16, class: u16, year: u16) -> Result<Mark<Monument>, Fail> {
+fn monument(row: u16, col: u16, class: u16, year: u16) -> Result<Mark<Monument>, Fail> {
     match Monument::new(class, year) {
         Ok(grade) => Ok(Mark { row, col, grade }),
         Err(_) => Err(Fail::new("no such grade")),

@@ -2,9 +2,8 @@
 use crate::answers::Seen::*;
 use crate::answers::*;
 use grade::points::Points;
-use plan::{Place, Plan};
-use runs::run::run;
-use runs::{Answer, Call, carry_out};
+use plan::run::run;
+use plan::{Answer, Call, Place, Plan, carry_out};
 
 // Eight calls: three marks entered, of which one is refused, then the others.
 fn eight_calls() -> [Call<Points>; 8] {

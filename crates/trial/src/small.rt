@@ -8,7 +8,7 @@ use grade::points::Points;
 use plan::{Place, Plan};
 use std::process::Abort;
 
-pub(crate) fn enter_marks(rt: &impl Abort, plan: &mut Plan<'_, Points>) -> Result<(), Fail>
+fn enter_marks(rt: &impl Abort, plan: &mut Plan<'_, Points>) -> Result<(), Fail>
     requires { Sound points (λ g. g.value) plan.old }
     ensures { Sound points (λ g. g.value) plan.new }
 {

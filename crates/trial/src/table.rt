@@ -6,8 +6,7 @@ use crate::answers::Seen::*;
 use crate::answers::*;
 use boxtree::mark::Mark;
 use grade::points::Points;
-use plan::{Place, Plan};
-use runs::{Call, call};
+use plan::{Call, Place, Plan};
 use std::process::Abort;
 
 // The cells of a plan of side 8 with 20 places.
@@ -108,12 +107,12 @@ impl Table {
 
 // A fixed row of numbers that looks random: linear congruential, of 64 bits.
 #[derive(Drop)]
-pub(crate) struct Dice {
-    pub(crate) state: u64,
+struct Dice {
+    state: u64,
 }
 
 impl Dice {
-    pub(crate) fn next(&mut self) -> u16 {
+    fn next(&mut self) -> u16 {
         self.state = self
             .state
             .wrapping_mul(6364136223846793005)
@@ -147,8 +146,8 @@ fn compare(
     ensures { Sound points (λ g. g.value) plan.new }
 {
     for i in 0..calls {
-        let next = dice.call();
-        assert_eq!(rt; in_numbers(call(plan, next)), table.call(next), "call {i}");
+        let call = dice.call();
+        assert_eq!(rt; in_numbers(plan.call(call)), table.call(call), "call {i}");
     }
     Ok(())
 }

@@ -9,11 +9,11 @@ ghost use Rattle.plan.specs.Refusals.{numbered, done_or, graded_or, looked_up};
 ghost use Rattle.plan.specs.Plans.{Sound, ledger, shown, Kept};
 
 use crate::change::{add, cleared, mark_in, on_plan_of, replace, take, tally};
+use crate::place::Place;
 use crate::plan::Plan;
 use crate::refusal::PlanRefusal;
 use boxtree::mark::Mark;
 use grade::Grade;
-use places::Place;
 
 /// Whether a plan of side 2 to the power `h` can be opened over so many places.
 pub fn check_open(h: u32, places: usize) -> Result<(), PlanRefusal>

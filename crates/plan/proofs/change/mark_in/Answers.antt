@@ -1,8 +1,8 @@
 use Rattle.std.proofs.Common.{ℕ, Option, subst}
 use Rattle.boxtree.specs.Marks.{spots_of}
 use Rattle.treap.specs.Entries.{plan_square}
-use Rattle.places.specs.Places.{cells}
-use Rattle.places.specs.Standing.{tree_in, Found}
+use Rattle.plan.specs.Places.{cells}
+use Rattle.plan.specs.Standing.{tree_in, Found}
 use Rattle.plan.proofs.Shapes.{fits_whole, inside_whole, stands_whole}
 use Rattle.plan.proofs.change.mark_in.Goals as goal
 

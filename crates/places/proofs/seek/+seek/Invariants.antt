@@ -1,4 +1,0 @@
-use Rattle.places.proofs.seek.+seek.Given as goal
-
-abbrev pub decreases-seek : goal.decreases-seek
-decreases-seek g l = l.square.level

@@ -1,4 +1,0 @@
-use Rattle.places.proofs.sink.+sink.Given as goal
-
-abbrev pub decreases-sink : goal.decreases-sink
-decreases-sink g l = l.square.level

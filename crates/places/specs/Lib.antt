@@ -1,4 +1,0 @@
-pub mod Squares
-pub mod Places
-pub mod Standing
-pub mod Children

@@ -1,0 +1,131 @@
+//! A place holds one box of a plan: its mark, and which places hold the boxes of its quadrants.
+ghost use Rattle.std.specs.Prelude.{◌≡◌, ℕ, ◌<◌, length, ◌≢◌};
+ghost use Rattle.boxtree.specs.Marks.{spot_of};
+ghost use Rattle.plan.specs.Places.{Below, cells, cell_of, leaf_of, relink, link as link_to, link_of};
+ghost use Rattle.plan.specs.Squares.{quadrant_of};
+
+use crate::square::Quadrant;
+use boxtree::mark::Mark;
+use grade::Grade;
+
+// The place of a box, or none, in 16 bits: 0 is none, and any other number is one more than the place.
+#[derive(Clone, Copy)]
+pub(crate) struct Link {
+    next: u16,
+}
+
+impl Link {
+    pub(crate) fn new(place: Option<u16>) -> Link
+        requires { Below 65535 place }
+        ensures { link_of result ≡ place }
+    {
+        match place {
+            None => Link { next: 0 },
+            Some(i) => Link { next: i + 1 },
+        }
+    }
+
+    pub(crate) fn place(self) -> Option<u16>
+        ensures { result ≡ link_of self }
+    {
+        if self.next == 0 {
+            None
+        } else {
+            Some(self.next - 1)
+        }
+    }
+}
+
+/// A place of a plan. The plan alone writes and reads it.
+#[derive(Clone, Copy)]
+pub struct Place<G> {
+    pub(crate) mark: Mark<G>,
+    pub(crate) top_left: Link,
+    pub(crate) top_right: Link,
+    pub(crate) bottom_left: Link,
+    pub(crate) bottom_right: Link,
+}
+
+impl<G: Grade> Place<G> {
+    /// A place to lend to a plan, filled with some grade; no plan reads it before it has written it.
+    pub fn vacant(grade: G) -> Place<G>
+        ensures { cell_of G.Grade.coded result ≡ leaf_of (record { row = 0; col = 0; grade = G.Grade.coded grade }) }
+    {
+        Place::leaf(Mark {
+            row: 0,
+            col: 0,
+            grade,
+        })
+    }
+
+    // A place that holds the mark and no boxes below it.
+    pub(crate) fn leaf(mark: Mark<G>) -> Place<G>
+        ensures { cell_of G.Grade.coded result ≡ leaf_of (spot_of G.Grade.coded mark) }
+    {
+        let none = Link::new(None);
+        Place {
+            mark,
+            top_left: none,
+            top_right: none,
+            bottom_left: none,
+            bottom_right: none,
+        }
+    }
+
+    // The place of the box in a quadrant.
+    pub(crate) fn link(self, q: Quadrant) -> Option<u16>
+        ensures { result ≡ link_to (quadrant_of q) (cell_of G.Grade.coded self) }
+    {
+        match q {
+            Quadrant::TopLeft => self.top_left.place(),
+            Quadrant::TopRight => self.top_right.place(),
+            Quadrant::BottomLeft => self.bottom_left.place(),
+            Quadrant::BottomRight => self.bottom_right.place(),
+        }
+    }
+
+    // The place with another mark, and another box in one quadrant.
+    pub(crate) fn relinked(self, mark: Mark<G>, q: Quadrant, place: Option<u16>) -> Place<G>
+        requires { Below 65535 place }
+        ensures { cell_of G.Grade.coded result ≡ relink (quadrant_of q) (cell_of G.Grade.coded self) (spot_of G.Grade.coded mark) place }
+    {
+        let link = Link::new(place);
+        match q {
+            Quadrant::TopLeft => Place {
+                mark,
+                top_left: link,
+                ..self
+            },
+            Quadrant::TopRight => Place {
+                mark,
+                top_right: link,
+                ..self
+            },
+            Quadrant::BottomLeft => Place {
+                mark,
+                bottom_left: link,
+                ..self
+            },
+            Quadrant::BottomRight => Place {
+                mark,
+                bottom_right: link,
+                ..self
+            },
+        }
+    }
+}
+
+pub(crate) fn read<G: Grade>(places: &[Place<G>], i: u16) -> Place<G>
+    requires { i < length places.now }
+    ensures { cells G.Grade.coded places.now i ≡ cell_of G.Grade.coded result }
+{
+    places[i as usize]
+}
+
+pub(crate) fn write<G: Grade>(places: &mut [Place<G>], i: u16, place: Place<G>)
+    requires { i < length places.old }
+    ensures there { cells G.Grade.coded places.new i ≡ cell_of G.Grade.coded place }
+    ensures elsewhere { (n : ℕ) → (n ≢ i) → cells G.Grade.coded places.new n ≡ cells G.Grade.coded places.old n }
+{
+    places[i as usize] = place;
+}
