@@ -4,11 +4,11 @@ use Rattle.plan.proofs.Shapes.{fits_whole}
 use Rattle.plan.proofs.Entering.{refused_off, refused_taken, refused_full, enter_asks, enter_does}
 use Rattle.plan.proofs.change.add.Goals as goal
 
-pub returns-then-not-on-plan-of : goal.returns-then-not-on-plan-of
-returns-then-not-on-plan-of g c =
+pub returns-then-not-on_plan_of : goal.returns-then-not-on_plan_of
+returns-then-not-on_plan_of g c =
     record {
       same = refl;
-      refuses = refused_off g.G.Grade.kind g.G.Grade.coded c.args.h c.args.count c.args.places.now c.requires (spot_of g.G.Grade.coded c.args.mark) (sym c.if-not-on-plan-of.ensures);
+      refuses = refused_off g.G.Grade.kind g.G.Grade.coded c.args.h c.args.count c.args.places.now c.requires (spot_of g.G.Grade.coded c.args.mark) (sym c.if-not-on_plan_of.ensures);
     }
 
 pub returns-in-Some : goal.returns-in-Some

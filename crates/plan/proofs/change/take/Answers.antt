@@ -8,11 +8,11 @@ use Rattle.plan.proofs.Shapes.{fits_whole, stands_whole}
 use Rattle.plan.proofs.Striking.{strike_off, strike_vacant, strike_answers, hole_low, strike_last, move_asks, strike_moved}
 use Rattle.plan.proofs.change.take.Goals as goal
 
-pub returns-then-not-on-plan-of : goal.returns-then-not-on-plan-of
-returns-then-not-on-plan-of g c =
+pub returns-then-not-on_plan_of : goal.returns-then-not-on_plan_of
+returns-then-not-on_plan_of g c =
     record {
       same = refl;
-      refuses = strike_off g.G.Grade.kind g.G.Grade.coded c.args.h c.args.count c.args.places.now c.requires c.args.row c.args.col (sym c.if-not-on-plan-of.ensures);
+      refuses = strike_off g.G.Grade.kind g.G.Grade.coded c.args.h c.args.count c.args.places.now c.requires c.args.row c.args.col (sym c.if-not-on_plan_of.ensures);
     }
 
 pub returns-in-None : goal.returns-in-None
@@ -34,10 +34,10 @@ lift-freed-requires g c =
           (sym c.root.ensures) c.in-Some.ensures.0;
     }
 
-pub overflow-sub-last : goal.overflow-sub-last
-overflow-sub-last g c =
+pub overflow_sub-last : goal.overflow_sub-last
+overflow_sub-last g c =
     let low =
-    hole_low g.G.Grade.kind g.G.Grade.coded c.args.h c.args.count c.args.places.now c.requires c.args.row c.args.col (sym c.if-not-on-plan-of.ensures)
+    hole_low g.G.Grade.kind g.G.Grade.coded c.args.h c.args.count c.args.places.now c.requires c.args.row c.args.col (sym c.if-not-on_plan_of.ensures)
     (spot_of g.G.Grade.coded c.in-Some.mark) c.in-Some.ensures c.root.result c.root.ensures
     c.lift-freed.new.places (omega (arith, c.lift-freed.auto.places)) c.lift-freed.result.root c.lift-freed.result.place c.lift-freed.ensures in
     omega (arith, low)

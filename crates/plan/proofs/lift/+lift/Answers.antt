@@ -22,16 +22,16 @@ pull-requires g t c =
       stands = at_place g.G.Grade.kind (square_of c.args.square) _ (cells g.G.Grade.coded c.args.places.now) _ _ c.in-Some.is c.requires.stands;
     }
 
-pub quadrant-at-q-requires : goal.quadrant-at-q-requires
-quadrant-at-q-requires g t c =
+pub quadrant_at-q-requires : goal.quadrant_at-q-requires
+quadrant_at-q-requires g t c =
     record {
       deep =
           lift_deep g.G.Grade.kind g.met.G.Grade.laws (square_of c.args.square) _ (cells g.G.Grade.coded c.args.places.now) _ _ c.in-Some.is
-          (cell_of g.G.Grade.coded c.read-here.result) c.read-here.ensures c.requires.stands _ c.requires.shown (sym c.if-stands-in.ensures);
+          (cell_of g.G.Grade.coded c.read-here.result) c.read-here.ensures c.requires.stands _ c.requires.shown (sym c.if-stands_in.ensures);
       fits = c.requires.fits;
       inside =
           lift_inside g.G.Grade.kind g.met.G.Grade.laws (square_of c.args.square) _ (cells g.G.Grade.coded c.args.places.now) _ _ c.in-Some.is
-          (cell_of g.G.Grade.coded c.read-here.result) c.read-here.ensures c.requires.stands _ c.requires.shown (sym c.if-stands-in.ensures);
+          (cell_of g.G.Grade.coded c.read-here.result) c.read-here.ensures c.requires.stands _ c.requires.shown (sym c.if-stands_in.ensures);
     }
 
 pub part-requires : goal.part-requires
@@ -74,16 +74,16 @@ write-requires g t c =
     let low = in_places g.G.Grade.kind (square_of c.args.square) _ (cells g.G.Grade.coded c.args.places.now) _ _ c.in-Some.is c.requires.stands in
     omega (arith, low, c.lift-freed.auto.places)
 
-pub returns-then-stands-in : goal.returns-then-stands-in
-returns-then-stands-in g t c =
+pub returns-then-stands_in : goal.returns-then-stands_in
+returns-then-stands_in g t c =
     lift_here g.G.Grade.kind g.met.G.Grade.laws (square_of c.args.square) _ (cells g.G.Grade.coded c.args.places.now) _ _ c.in-Some.is
-    (cell_of g.G.Grade.coded c.read-here.result) c.read-here.ensures c.requires.stands (spot_of g.G.Grade.coded c.args.mark) c.requires.shown (sym c.if-stands-in.ensures)
+    (cell_of g.G.Grade.coded c.read-here.result) c.read-here.ensures c.requires.stands (spot_of g.G.Grade.coded c.args.mark) c.requires.shown (sym c.if-stands_in.ensures)
     (cells g.G.Grade.coded c.pull.new.places) c.pull.result.root c.pull.result.place c.pull.ensures
 
-pub returns-else-stands-in : goal.returns-else-stands-in
-returns-else-stands-in g t c =
+pub returns-else-stands_in : goal.returns-else-stands_in
+returns-else-stands_in g t c =
     lift_does g.G.Grade.kind g.met.G.Grade.laws (square_of c.args.square) _ (cells g.G.Grade.coded c.args.places.now) _ _ c.in-Some.is
-    (cell_of g.G.Grade.coded c.read-here.result) c.read-here.ensures c.requires.stands (spot_of g.G.Grade.coded c.args.mark) c.requires.shown (sym c.if-stands-in.ensures)
-    (quadrant_of c.quadrant-at-q.result) c.quadrant-at-q.ensures (square_of c.part.result) c.part.ensures c.link.result c.link.ensures
+    (cell_of g.G.Grade.coded c.read-here.result) c.read-here.ensures c.requires.stands (spot_of g.G.Grade.coded c.args.mark) c.requires.shown (sym c.if-stands_in.ensures)
+    (quadrant_of c.quadrant_at-q.result) c.quadrant_at-q.ensures (square_of c.part.result) c.part.ensures c.link.result c.link.ensures
     (cells g.G.Grade.coded c.lift-freed.new.places) c.lift-freed.result.root c.lift-freed.result.place c.lift-freed.ensures
     (cells g.G.Grade.coded c.write.new.places) (c.write.ensures.there ∙ c.relinked.ensures) c.write.ensures.elsewhere

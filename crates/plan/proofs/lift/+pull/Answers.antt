@@ -9,8 +9,8 @@ use Rattle.plan.proofs.lift.+pull.Goals as goal
 pub read-here-requires : goal.read-here-requires
 read-here-requires g t c = root_below g.G.Grade.kind (square_of c.args.square) _ (cells g.G.Grade.coded c.args.places.now) c.args.i c.requires.stands
 
-pub best-child-requires : goal.best-child-requires
-best-child-requires g t c =
+pub best_child-requires : goal.best_child-requires
+best_child-requires g t c =
     linked g.G.Grade.kind g.met.G.Grade.laws (square_of c.args.square) _ (cells g.G.Grade.coded c.args.places.now) c.args.i
     (cell_of g.G.Grade.coded c.read-here.result) c.read-here.ensures c.requires.stands
 

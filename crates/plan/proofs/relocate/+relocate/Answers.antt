@@ -17,8 +17,8 @@ read-here-requires g t c = in_places g.G.Grade.kind (square_of c.args.square) _ 
 pub write-requires : goal.write-requires
 write-requires g t c = c.requires.moves.room
 
-pub quadrant-at-q-requires : goal.quadrant-at-q-requires
-quadrant-at-q-requires g t c =
+pub quadrant_at-q-requires : goal.quadrant_at-q-requires
+quadrant_at-q-requires g t c =
     record {
       deep =
           move_deep g.G.Grade.kind g.met.G.Grade.laws (square_of c.args.square) _ (cells g.G.Grade.coded c.args.places.now) _ _ _ _ _ c.in-Some.is

@@ -9,12 +9,12 @@ use Rattle.plan.proofs.seek.+seek.Goals as goal
 pub read-here-requires : goal.read-here-requires
 read-here-requires g t c = in_places g.G.Grade.kind (square_of c.args.square) _ (cells g.G.Grade.coded c.args.places.now) _ _ c.in-Some.is c.requires.stands
 
-pub quadrant-at-q-requires : goal.quadrant-at-q-requires
-quadrant-at-q-requires g t c =
+pub quadrant_at-q-requires : goal.quadrant_at-q-requires
+quadrant_at-q-requires g t c =
     record {
       deep =
           seek_deep g.G.Grade.kind (square_of c.args.square) _ _ _ c.requires.inside (cells g.G.Grade.coded c.args.places.now) _ _ c.in-Some.is
-          (cell_of g.G.Grade.coded c.read-here.result) c.read-here.ensures c.requires.stands (sym c.if-stands-in.ensures);
+          (cell_of g.G.Grade.coded c.read-here.result) c.read-here.ensures c.requires.stands (sym c.if-stands_in.ensures);
       fits = c.requires.fits;
       inside = c.requires.inside;
     }
@@ -43,14 +43,14 @@ seek-requires g t c κs within =
       ),
     )
 
-pub returns-then-stands-in : goal.returns-then-stands-in
-returns-then-stands-in g t c =
+pub returns-then-stands_in : goal.returns-then-stands_in
+returns-then-stands_in g t c =
     found_here g.G.Grade.kind (square_of c.args.square) _ _ _ c.requires.inside (cells g.G.Grade.coded c.args.places.now) _ _ c.in-Some.is
-    (cell_of g.G.Grade.coded c.read-here.result) c.read-here.ensures c.requires.stands (sym c.if-stands-in.ensures)
+    (cell_of g.G.Grade.coded c.read-here.result) c.read-here.ensures c.requires.stands (sym c.if-stands_in.ensures)
 
-pub returns-else-stands-in : goal.returns-else-stands-in
-returns-else-stands-in g t c =
+pub returns-else-stands_in : goal.returns-else-stands_in
+returns-else-stands_in g t c =
     found_below g.G.Grade.kind (square_of c.args.square) _ _ _ c.requires.inside (cells g.G.Grade.coded c.args.places.now) _ _ c.in-Some.is
-    (cell_of g.G.Grade.coded c.read-here.result) c.read-here.ensures c.requires.stands (sym c.if-stands-in.ensures)
-    (quadrant_of c.quadrant-at-q.result) c.quadrant-at-q.ensures (square_of c.part.result) c.part.ensures c.link.result c.link.ensures
+    (cell_of g.G.Grade.coded c.read-here.result) c.read-here.ensures c.requires.stands (sym c.if-stands_in.ensures)
+    (quadrant_of c.quadrant_at-q.result) c.quadrant_at-q.ensures (square_of c.part.result) c.part.ensures c.link.result c.link.ensures
     (spots_of g.G.Grade.coded c.seek.result) c.seek.ensures

@@ -9,16 +9,16 @@ use Rattle.plan.proofs.sink.+sink.Goals as goal
 pub read-here-requires : goal.read-here-requires
 read-here-requires g t c = in_places g.G.Grade.kind (square_of c.args.square) _ (cells g.G.Grade.coded c.args.places.now) _ _ c.in-Some.is c.requires.sinks.stands
 
-pub quadrant-at-q-requires : goal.quadrant-at-q-requires
-quadrant-at-q-requires g t c =
+pub quadrant_at-q-requires : goal.quadrant_at-q-requires
+quadrant_at-q-requires g t c =
     record {
       deep =
           sink_deep g.G.Grade.kind g.met.G.Grade.laws (square_of c.args.square) _ _ _ (cells g.G.Grade.coded c.args.places.now) _ _ c.in-Some.is
-          (cell_of g.G.Grade.coded c.read-here.result) c.read-here.ensures c.requires.sinks _ _ c.rank-pair-pair.ensures;
+          (cell_of g.G.Grade.coded c.read-here.result) c.read-here.ensures c.requires.sinks _ _ c.rank_pair-pair.ensures;
       fits = c.requires.fits;
       inside =
           sink_inside g.G.Grade.kind g.met.G.Grade.laws (square_of c.args.square) _ _ _ (cells g.G.Grade.coded c.args.places.now) _ _ c.in-Some.is
-          (cell_of g.G.Grade.coded c.read-here.result) c.read-here.ensures c.requires.sinks _ _ c.rank-pair-pair.ensures;
+          (cell_of g.G.Grade.coded c.read-here.result) c.read-here.ensures c.requires.sinks _ _ c.rank_pair-pair.ensures;
     }
 
 pub part-requires : goal.part-requires
