@@ -12,3 +12,4 @@ mod Striking
 mod Regrading
 mod Calls
 mod Running
+mod Boxes

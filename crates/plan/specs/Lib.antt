@@ -4,4 +4,5 @@ pub mod Standing
 pub mod Children
 pub mod Refusals
 pub mod Plans
+pub mod Boxes
 pub mod Runs

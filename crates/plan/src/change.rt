@@ -19,7 +19,7 @@ use boxtree::mark::Mark;
 use grade::Grade;
 
 // The place of the root of a plan.
-fn root(count: u16) -> Option<u16>
+pub(crate) fn root(count: u16) -> Option<u16>
     ensures { result ≡ root_at count }
 {
     if count == 0 { None } else { Some(0) }

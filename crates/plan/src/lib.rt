@@ -12,6 +12,7 @@ pub mod run;
 mod seek;
 mod sink;
 mod square;
+mod tree;
 
 pub use place::Place;
 pub use plan::Plan;
