@@ -1,5 +1,6 @@
 //! The lines of a book: where a line ends, which command it says, and how the answer to it is written.
 #![tactic(auto)]
+
 mod command;
 mod grammar;
 mod lines;

@@ -3,5 +3,5 @@ use Rattle.std.proofs.Common.{arith}
 use Rattle.book.proofs.Commands.{too_many}
 use Rattle.book.proofs.grammar.command.Goals as goal
 
-pub returns-then-k-gt-MOST-DRAWN : goal.returns-then-k-gt-MOST-DRAWN
-returns-then-k-gt-MOST-DRAWN c = too_many c.args.letter c.args.rest.now _ _ _ _ _ (omega arith) c.in-ok-top.ensures (omega arith)
+pub returns-then-k-gt-MOST_DRAWN : goal.returns-then-k-gt-MOST_DRAWN
+returns-then-k-gt-MOST_DRAWN c = too_many c.args.letter c.args.rest.now _ _ _ _ _ (omega arith) c.in_ok-top-in-D.ensures (omega arith)

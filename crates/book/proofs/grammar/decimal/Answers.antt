@@ -7,8 +7,8 @@ use Rattle.book.specs.Grammar.{Digit}
 use Rattle.book.proofs.Numerals.{one_digit_more}
 use Rattle.book.proofs.grammar.decimal.Goals as goal
 
-pub overflow-sub-digit : goal.overflow-sub-digit
-overflow-sub-digit c = search (rules, All-get_or Digit)
+pub overflow_sub-digit : goal.overflow_sub-digit
+overflow_sub-digit c = search (rules, All-get_or Digit)
 
 pub loop-digit-preserved : goal.loop-digit-preserved
 loop-digit-preserved c =

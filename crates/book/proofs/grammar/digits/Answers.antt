@@ -6,8 +6,8 @@ use Rattle.book.specs.Grammar.{Digit}
 use Rattle.book.proofs.Numerals.{no_digit_at, no_digit_end}
 use Rattle.book.proofs.grammar.digits.Goals as goal
 
-pub returns-then-not-is-ascii-digit : goal.returns-then-not-is-ascii-digit
-returns-then-not-is-ascii-digit c = record { bound = omega arith; front = c.loop-i.invariant; rest = search (rules, no_digit_at) }
+pub returns-then-not-is_ascii_digit : goal.returns-then-not-is_ascii_digit
+returns-then-not-is_ascii_digit c = record { bound = omega arith; front = c.loop-i.invariant; rest = search (rules, no_digit_at) }
 
 pub loop-i-preserved : goal.loop-i-preserved
 loop-i-preserved c = All-more Digit c.args.text.now c.loop-i.i 0 c.loop-i-test.true c.loop-i.invariant (search rules)

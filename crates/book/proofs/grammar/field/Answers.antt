@@ -11,12 +11,12 @@ returns-then-count-eq0 c =
     no_field text _ count.result (after_space text (search rules) (search rules)) count.ensures.bound count.ensures.front count.ensures.rest
     (λ some few small. omega (arith, c.then-count-eq0.either))
 
-pub returns-in-default-try-from : goal.returns-in-default-try-from
-returns-in-default-try-from c =
+pub returns-in_default-try_from : goal.returns-in_default-try_from
+returns-in_default-try_from c =
     let text = c.args.text.now in
     let count = c.digits-count in
     no_field text _ count.result (after_space text (search rules) (search rules)) count.ensures.bound count.ensures.front count.ensures.rest
-    (λ some few small. c.in-default-try-from.ensures (search rules))
+    (λ some few small. c.in_default-try_from.ensures (search rules))
 
 pub returns : goal.returns
 returns c = search (rules, after_space, take_rest, field_made)

@@ -6,8 +6,8 @@ use Rattle.book.specs.declared.command.Command.{Command}
 use Rattle.book.proofs.Commands.{one_command}
 use Rattle.book.proofs.grammar.parse.Goals as goal
 
-pub returns-in-default : goal.returns-in-default
-returns-in-default c = search (rules, one_command)
+pub returns-in_default : goal.returns-in_default
+returns-in_default c = search (rules, one_command)
 
 pub returns : goal.returns
 returns c = record {
