@@ -1,5 +1,6 @@
 //! The program `plot`: reads a book from its standard input, and prints the answer to each of its lines.
 #![tactic(auto)]
+
 ghost use Rattle.std.specs.Prelude.{◌≤◌, length, IfOk};
 ghost use Rattle.grade.specs.Kinds.{points};
 ghost use Rattle.plan.specs.Plans.{Sound};

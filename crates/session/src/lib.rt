@@ -1,5 +1,6 @@
 //! Sessions: a plan of points, opened and changed line by line.
 #![tactic(auto)]
+
 mod answer;
 mod session;
 
