@@ -76,8 +76,8 @@ fn a_draw_is_read_and_refused(rt: HostRuntime) {
 fn a_last_newline_starts_no_line(rt: HostRuntime) -> Result<(), Fail> {
     assert!(rt; first_line(b"").is_none());
     let (line, rest) = first_line(b"N 2\nL").ok_or("no line")?;
-    assert_eq!(rt; line, b"N 2");
-    assert_eq!(rt; rest, b"L");
+    assert_eq!(rt; line, b"N 2".as_slice());
+    assert_eq!(rt; rest, b"L".as_slice());
     let (line, rest) = first_line(b"\n\n").ok_or("no line")?;
     assert!(rt; line.is_empty());
     let (line, rest) = first_line(rest).ok_or("no second line")?;

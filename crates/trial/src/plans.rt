@@ -6,6 +6,7 @@ use grade::Grade;
 use grade::monument::Monument;
 use grade::points::Points;
 use plan::{Call, Place, Plan, check_open};
+use std::test::Fail;
 
 #[test]
 fn a_full_plan_takes_a_mark_after_a_strike(rt: HostRuntime) -> Result<(), Fail> {

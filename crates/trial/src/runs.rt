@@ -4,6 +4,7 @@ use crate::answers::*;
 use grade::points::Points;
 use plan::run::run;
 use plan::{Answer, Call, Place, Plan, carry_out};
+use std::test::Fail;
 
 // Eight calls: three marks entered, of which one is refused, then the others.
 fn eight_calls() -> [Call<Points>; 8] {

@@ -7,6 +7,7 @@ use crate::answers::*;
 use grade::points::Points;
 use plan::{Place, Plan};
 use std::process::Abort;
+use std::test::Fail;
 
 fn enter_marks(rt: &impl Abort, plan: &mut Plan<'_, Points>) -> Result<(), Fail>
     requires { Sound points (λ g. g.value) plan.old }

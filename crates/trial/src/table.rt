@@ -8,6 +8,7 @@ use boxtree::mark::Mark;
 use grade::points::Points;
 use plan::{Call, Place, Plan};
 use std::process::Abort;
+use std::test::Fail;
 
 // The cells of a plan of side 8 with 20 places.
 #[derive(Drop)]
