@@ -1,19 +1,15 @@
 -- A heap in the first slots of a list, when one entry comes in or the first goes out.
 use Rattle.std.proofs.Common.{◌≡◌, ℕ, zero, suc, ◌+◌, ◌-◌, ◌<◌, ◌≤◌, Bool, false, List, [], ◌∷◌, ◌++◌, length, get_or, take, drop, set, sym, refl, ap, ◌∙◌, subst, arith}
 use Rattle.std.specs.List.Sorted.{IsPermutation}
-use Rattle.std.proofs.Permutation.{taken-first}
-use Rattle.std.proofs.ByRecursion.{All-from_get_or}
-use Rattle.std.proofs.lemmas.List.{length-take-le, length-append, length-drop, get_or-take, get_or_append_left, get_or_read, set_split, take-take, take_at, drop_all}
-use Rattle.std.proofs.lemmas.List.Sorted.{IsPermutation-sym, IsPermutation-trans, IsPermutation-to_front, IsPermutation-cons}
+use Rattle.std.proofs.lemmas.List.Elements.{All-from_get_or}
+use Rattle.std.proofs.lemmas.List.{length-take-le, get_or-take, get_or_append_left, get_or_read, set_split, take-take, take_at, drop_all}
+use Rattle.std.proofs.lemmas.List.Sorted.{IsPermutation-sym, IsPermutation-trans, IsPermutation-to_front, IsPermutation-cons, IsPermutation-swap_remove}
 use Rattle.queue.specs.Ranks.{Ranking, Top}
 use Rattle.queue.specs.Heaps.{up, Heap, Rising, Sinking}
 use Rattle.queue.proofs.Moves.{by, top}
 
 -- what stands after a write to the first m
 module _ {E : Type 0} (xs ys : List E) (m : ℕ) (in' : m ≤ length xs) (long : length ys ≡ m) where
-  pub part_size : length (ys ++ drop m xs) ≡ length xs
-  part_size = omega (arith, length-append ys (drop m xs), length-drop m xs)
-
   pub part_take : (n : ℕ) → n ≡ m → take n (ys ++ drop m xs) ≡ ys
   part_take n e = take_at ys (drop m xs) n (omega arith)
 
@@ -86,5 +82,5 @@ module _ {E : Type 0} (xs : List E) where
       ∙ ap (λ (t : List E). set t 0 v) short
       ∙ ap (set (take m xs) 0) at_last
       ∙ sym (take_first xs m y) in
-      let out = taken-first (take n xs) x (omega arith) (first ∙ sym (get_or-take n xs 0 x (omega arith))) in
+      let out = IsPermutation-swap_remove (take n xs) 0 x (omega arith) (first ∙ sym (get_or-take n xs 0 x (omega arith))) in
       IsPermutation-trans _ _ _ out (IsPermutation-cons x _ _ (subst (λ (t : List E). IsPermutation t ys) (sym same) s))

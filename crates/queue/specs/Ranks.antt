@@ -5,8 +5,7 @@
 --   Top over e xs      none of xs outranks e
 --   on key over        the test of the entries' keys
 --   lex first second   the first test, and the second where the first leaves two entries level
-use Rattle.std.specs.Prelude.{◌≡◌, Bool, true, false, cond, List}
-use Rattle.std.specs.List.{AllByRecursion as All}
+use Rattle.std.specs.Prelude.{◌≡◌, Bool, true, false, cond, List, All}
 
 -- of two entries at most one outranks the other; and if x does not outrank y, nor y z, then x does not outrank z
 pub record Ranking {E : Type 0} (over : E → E → Bool) : Type 0 where

@@ -8,7 +8,7 @@ use crate::ranked::Ranked;
 // Whether the entry at `i` outranks the one at `j`.
 fn outranks_at<E: Ranked>(heap: &[E], i: usize, j: usize) -> bool
     requires { (i < length heap.now) × (j < length heap.now) }
-    ensures { (d : E) → result ≡ over (slice_index_or heap.now i d) (slice_index_or heap.now j d) }
+    ensures { (d : E) → result ≡ E.over (slice_index_or heap.now i d) (slice_index_or heap.now j d) }
 {
     heap[i].outranks(heap[j])
 }
@@ -16,10 +16,10 @@ fn outranks_at<E: Ranked>(heap: &[E], i: usize, j: usize) -> bool
 // Moves the entry at `at` up past those that it outranks.
 pub(crate) fn rise<E: Ranked>(heap: &mut [E], at: usize)
     requires within { at < length heap.old }
-    requires rising { Rising over heap.old at (length heap.old) }
+    requires rising { Rising E.over heap.old at (length heap.old) }
     ensures len { length heap.new ≡ length heap.old }
     ensures shuffled { IsPermutation heap.old heap.new }
-    ensures heaped { Heap over heap.new (length heap.old) }
+    ensures heaped { Heap E.over heap.new (length heap.old) }
 {
     if at == 0 {
         return;
@@ -35,7 +35,7 @@ pub(crate) fn rise<E: Ranked>(heap: &mut [E], at: usize)
 fn best_below<E: Ranked>(heap: &[E], at: usize) -> usize
     requires { at * 2 + 1 < length heap.now }
     ensures within { (0 < result) × (result < length heap.now) × (up result ≡ at) }
-    ensures best { Best over heap.now at result (length heap.now) }
+    ensures best { Best E.over heap.now at result (length heap.now) }
 {
     let left = at * 2 + 1;
     if left + 1 == heap.len() {
@@ -50,10 +50,10 @@ fn best_below<E: Ranked>(heap: &[E], at: usize) -> usize
 
 // Moves the entry at `at` down past those that outrank it.
 pub(crate) fn settle<E: Ranked>(heap: &mut [E], at: usize)
-    requires { Sinking over heap.old at (length heap.old) }
+    requires { Sinking E.over heap.old at (length heap.old) }
     ensures len { length heap.new ≡ length heap.old }
     ensures shuffled { IsPermutation heap.old heap.new }
-    ensures heaped { Heap over heap.new (length heap.old) }
+    ensures heaped { Heap E.over heap.new (length heap.old) }
 {
     if heap.len() / 2 <= at {
         return;

@@ -10,10 +10,10 @@ use crate::ranked::Ranked;
 // Puts `entry` among the first `len`.
 pub(crate) fn insert<E: Ranked>(slots: &mut [E], len: usize, entry: E)
     requires room { len < length slots.old }
-    requires heap { Heap over slots.old len }
+    requires heap { Heap E.over slots.old len }
     ensures room { length slots.new ≡ length slots.old }
     ensures held { IsPermutation (entry ∷ take len slots.old) (take (len + 1) slots.new) }
-    ensures heap { Heap over slots.new (len + 1) }
+    ensures heap { Heap E.over slots.new (len + 1) }
     ensures spare { drop (len + 1) slots.new ≡ drop 1 (drop len slots.old) }
 {
     let live = &mut slots[0..len + 1];
@@ -24,11 +24,11 @@ pub(crate) fn insert<E: Ranked>(slots: &mut [E], len: usize, entry: E)
 // Takes the top of the first `len` out; the last of them fills its place, and settles.
 pub(crate) fn extract<E: Ranked>(slots: &mut [E], len: usize) -> E
     requires some { (0 < len) × (len ≤ length slots.old) }
-    requires heap { Heap over slots.old len }
+    requires heap { Heap E.over slots.old len }
     ensures room { length slots.new ≡ length slots.old }
-    ensures top { Top over result (take len slots.old) }
+    ensures top { Top E.over result (take len slots.old) }
     ensures held { IsPermutation (take len slots.old) (result ∷ take (len - 1) slots.new) }
-    ensures heap { Heap over slots.new (len - 1) }
+    ensures heap { Heap E.over slots.new (len - 1) }
     ensures spare { drop 1 (drop (len - 1) slots.new) ≡ drop len slots.old }
 {
     let last = len - 1;

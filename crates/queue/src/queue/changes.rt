@@ -10,8 +10,8 @@ impl<E: Ranked> Queue<'_, E> {
     /// Takes the entry in and answers true: one slot fewer is spare. Where no slot is spare it answers false, and every
     /// slot is as it was.
     pub fn push(&mut self, entry: E) -> bool
-        requires { Sound over self.old }
-        ensures sound { Sound over self.new }
+        requires { Sound E.over self.old }
+        ensures sound { Sound E.over self.new }
         ensures room { room self.new ≡ room self.old }
         ensures taken { result ≡ nat_lt (length (held self.old)) (room self.old) }
         ensures len { length (held self.new) ≡ length (held self.old) + (if result then 1 else 0) }
@@ -31,11 +31,11 @@ impl<E: Ranked> Queue<'_, E> {
     /// Gives an entry that none it holds outranks, and holds it no more: one slot more is spare. Where it holds nothing
     /// it gives none, and every slot is as it was.
     pub fn pop(&mut self) -> Option<E>
-        requires { Sound over self.old }
-        ensures sound { Sound over self.new }
+        requires { Sound E.over self.old }
+        ensures sound { Sound E.over self.new }
         ensures room { room self.new ≡ room self.old }
         ensures len { Fewer result (length (held self.old)) (length (held self.new)) }
-        ensures held { Popped over result self.old self.new }
+        ensures held { Popped E.over result self.old self.new }
         ensures spare { drop (if is_some result then 1 else 0) (spare self.new) ≡ spare self.old }
     {
         if self.len == 0 {

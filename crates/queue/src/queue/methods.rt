@@ -8,7 +8,7 @@ use crate::ranked::Ranked;
 impl<'a, E: Ranked> Queue<'a, E> {
     /// A queue that holds nothing, with room for as many entries as there are slots. The slots stay as they were.
     pub fn new(slots: &'a mut [E]) -> Queue<'a, E>
-        ensures sound { Sound over result }
+        ensures sound { Sound E.over result }
         ensures empty { held result ≡ [] }
         ensures room { room result ≡ length slots.old }
         ensures spare { spare result ≡ slots.old }
@@ -18,7 +18,7 @@ impl<'a, E: Ranked> Queue<'a, E> {
 
     /// How many entries it holds.
     pub fn len(&self) -> usize
-        requires { Sound over self.now }
+        requires { Sound E.over self.now }
         ensures { result ≡ length (held self.now) }
     {
         self.len
