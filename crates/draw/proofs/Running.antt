@@ -2,11 +2,11 @@
 use Rattle.std.proofs.Common.{◌≡◌, ℕ, zero, suc, ◌+◌, ◌<◌, ◌≤◌, Bool, true, false, cond, ◌⊎◌, List, [], ◌∷◌, ◌++◌, map, length, take, drop, set, Some, None, sum_by, Option, sym, refl, ap, ◌∙◌, subst, subst₂, inl, inr, arith}
 use lib.ListN.{length-map}
 use Rattle.std.specs.List.Sorted.{IsPermutation}
-use Rattle.std.specs.List.{AllByRecursion as All}
+use Rattle.std.specs.List.{AllByRecursion}
 use Rattle.std.proofs.lemmas.Bool.{true≢false}
 use Rattle.std.proofs.lemmas.List.{length-set, length-take-le, take_more_set, map-append, drop-set-lt, drop-drop}
-use Rattle.std.proofs.lemmas.List.Sorted.{sum_by-IsPermutation, length_permutation}
-use Rattle.std.proofs.ByRecursion.{all_shuffled}
+use Rattle.std.proofs.lemmas.List.Sorted.{All-permutation, sum_by-IsPermutation, length_permutation}
+use Rattle.std.proofs.lemmas.List.Elements.{recursion_from_All, All-tail}
 use Rattle.std.proofs.lemmas.List.Sums.{sum_by-cons, sum_by-append}
 use Rattle.grade.specs.Kind.{Kind, Laws}
 use Rattle.treap.specs.Spots.{Spot, Outranks}
@@ -70,7 +70,7 @@ rest_stays : {X : Type 0} (xs ys : List X) (i : ℕ) (x : X) → drop i xs ≡ d
 rest_stays {X} xs ys i x e = drop-set-lt (i + 1) xs i x (omega arith) ∙ sym (drop-drop 1 i xs) ∙ ap (λ (l : List X). drop 1 l) e ∙ drop-drop 1 i ys
 
 module _ {G : Type 0} (k : Kind) (L : Laws k) (code : G → ℕ) (m : Meaning) (h : Lawful k m) (w : Window) (n : ℕ) where
-  not_over : (top : Entry G) (rest : List (Entry G)) → All (λ e. ranked k code e top ≡ false) rest → (x : Node) → In (nodes code m.tree rest) x → Outranks k x.mark (spot_of code top.mark) → ⊥
+  not_over : (top : Entry G) (rest : List (Entry G)) → AllByRecursion (λ e. ranked k code e top ≡ false) rest → (x : Node) → In (nodes code m.tree rest) x → Outranks k x.mark (spot_of code top.mark) → ⊥
   not_over top [] a x i o = i
   not_over top (e ∷ rest) a x (inl i) o =
       true≢false (sym (passes k (spot_of code e.mark) (spot_of code top.mark) (subst (λ (y : Node). Outranks k y.mark (spot_of code top.mark)) i o)) ∙ a.0)
@@ -97,7 +97,9 @@ module _ {G : Type 0} (k : Kind) (L : Laws k) (code : G → ℕ) (m : Meaning) (
     counts_on = omega (arith, weighs, r.light, h.counted)
 
     none_over : (x : Node) → In (nodes code m.tree rest) x → Outranks k x.mark (spot_of code top.mark) → ⊥
-    none_over = not_over top rest (all_shuffled (λ e. ranked k code e top ≡ false) queue (top ∷ rest) popped best).1
+    none_over =
+        let level : Entry G → Type 0 = λ e. ranked k code e top ≡ false in
+        not_over top rest (recursion_from_All level rest (All-tail level top rest (All-permutation level queue (top ∷ rest) popped best)))
 
     few : length (map (spot_of code) (take listed list)) < n
     few = omega (arith, length-map (take listed list) (spot_of code), length-take-le listed list (omega arith))

@@ -1,5 +1,6 @@
 //! Windows drawn with their best marks, from any box tree.
 #![tactic(auto)]
+
 pub mod drawn;
 pub mod entry;
 mod look;

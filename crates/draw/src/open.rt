@@ -18,9 +18,9 @@ use queue::{Queue, Ranked};
 
 // Puts the entry, if there is one, into the queue, which has room for it.
 pub(crate) fn put<E: Ranked>(waiting: &mut Queue<E>, found: Option<E>)
-    requires sound { Sound over waiting.old }
+    requires sound { Sound E.over waiting.old }
     requires place { is_some found ≡ true → length (held waiting.old) < room waiting.old }
-    ensures sound { Sound over waiting.new }
+    ensures sound { Sound E.over waiting.new }
     ensures room { room waiting.new ≡ room waiting.old }
     ensures held { IsPermutation (with found (held waiting.old)) (held waiting.new) }
 {

@@ -50,6 +50,7 @@ fn search<T: BoxTree>(
     requires asked { T.BoxTree.sound tree.now }
     requires upright { Upright (window_of window) }
     requires lawful { Lawful T.G.Grade.kind (T.BoxTree.shown tree.now) }
+    requires small { (T.BoxTree.shown tree.now).ceiling ≤ 65535 }
     requires sound { Sound (ranked T.G.Grade.kind T.G.Grade.coded) waiting.old }
     requires empty { held waiting.old ≡ [] }
     requires room { (T.BoxTree.shown tree.now).ceiling ≤ room waiting.old }

@@ -15,5 +15,5 @@ look-requires g c =
 pub returns-in-Some : goal.returns-in-Some
 returns-in-Some g c =
     let t = (g.T.BoxTree.shown c.args.tree.now).tree in
-    subst₂ (λ (r : Square) (u : Tree). Looked (window_of c.args.window) r u (noded g.G.Grade.coded t c.look.result))
+    subst₂ (λ (r : Square) (u : Tree). Looked (window_of c.args.window) r u (noded g.T.G.Grade.coded t c.look.result))
     c.square-square.ensures.is (find_root c.in-Some.number t (sym c.in-Some.ensures)) c.look.ensures

@@ -8,7 +8,7 @@ use Rattle.draw.proofs.look.kid.Goals as goal
 
 pub part-requires : goal.part-requires
 part-requires g c =
-    let f = node g.G.Grade.coded (g.T.BoxTree.shown c.args.tree.now).tree c.args.entry in
+    let f = node g.T.G.Grade.coded (g.T.BoxTree.shown c.args.tree.now).tree c.args.entry in
     let h = c.requires.lawful in
     let p = kid_quadrants h f c.requires.part c.args.q c.requires.place c.in-Some.number (sym (ap Ok c.in-Some.is) ∙ c.in-Ok.ensures) in
     let l = place h f c.requires.part c.args.q c.requires.place in
@@ -19,7 +19,7 @@ part-requires g c =
 
 pub look-requires : goal.look-requires
 look-requires g c =
-    let f = node g.G.Grade.coded (g.T.BoxTree.shown c.args.tree.now).tree c.args.entry in
+    let f = node g.T.G.Grade.coded (g.T.BoxTree.shown c.args.tree.now).tree c.args.entry in
     let h = c.requires.lawful in
     let l = place h f c.requires.part c.args.q c.requires.place in
     let m = level_small h in
@@ -29,6 +29,6 @@ look-requires g c =
 pub returns-in-Some : goal.returns-in-Some
 returns-in-Some g c =
     let t = (g.T.BoxTree.shown c.args.tree.now).tree in
-    let f = node g.G.Grade.coded t c.args.entry in
-    subst₂ (λ (r : Square) (u : Tree). Looked (window_of c.args.window) r u (noded g.G.Grade.coded t c.look.result))
+    let f = node g.T.G.Grade.coded t c.args.entry in
+    subst₂ (λ (r : Square) (u : Tree). Looked (window_of c.args.window) r u (noded g.T.G.Grade.coded t c.look.result))
     c.part.ensures (kid_found c.requires.lawful f c.requires.part c.args.q c.requires.place c.in-Some.number (sym (ap Ok c.in-Some.is) ∙ c.in-Ok.ensures)) c.look.ensures

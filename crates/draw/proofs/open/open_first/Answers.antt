@@ -14,15 +14,15 @@ loop-q-init g c = (c.requires.sound, refl, opens _ _ _)
 
 pub put-requires : goal.put-requires
 put-requires g c =
-    let code = g.G.Grade.coded in
+    let code = g.T.G.Grade.coded in
     let t = (g.T.BoxTree.shown c.args.tree.now).tree in
     let f = node code t c.args.top in
     let l = c.loop-q in
-    let found = c.kid_found.result in
+    let found = c.kid-found.result in
     record {
       sound = l.invariant.0;
       place = λ some.
-          let left = room_left (window_of c.args.window) f l.q (omega arith) (nodes code t (held c.args.waiting.now)) (nodes code t (held l.waiting)) (nodes code t (held l.waiting)) l.invariant.2 (noded code t found) c.kid_found.ensures (some_noded code t found some) (room c.args.waiting.now) c.requires.place in
+          let left = room_left (window_of c.args.window) f l.q (omega arith) (nodes code t (held c.args.waiting.now)) (nodes code t (held l.waiting)) (nodes code t (held l.waiting)) l.invariant.2 (noded code t found) c.kid-found.ensures (some_noded code t found some) (room c.args.waiting.now) c.requires.place in
           let e = length-map (held l.waiting) (node code t) in
           let i = l.invariant.1 in
           omega arith;
@@ -30,15 +30,15 @@ put-requires g c =
 
 pub loop-q-preserved : goal.loop-q-preserved
 loop-q-preserved g c =
-    let code = g.G.Grade.coded in
+    let code = g.T.G.Grade.coded in
     let t = (g.T.BoxTree.shown c.args.tree.now).tree in
     let f = node code t c.args.top in
     let l = c.loop-q in
-    let found = c.kid_found.result in
+    let found = c.kid-found.result in
     let came : IsPermutation (with (noded code t found) (nodes code t (held l.waiting))) (nodes code t (held c.put.new.waiting)) =
     subst (λ (x : List Node). IsPermutation x (nodes code t (held c.put.new.waiting))) (nodes_with code t found (held l.waiting))
     (shuffled_map (node code t) _ _ c.put.ensures.held) in (
       c.put.ensures.sound,
       c.put.ensures.room ∙ l.invariant.1,
-      another (window_of c.args.window) f l.q (omega arith) (nodes code t (held c.args.waiting.now)) (nodes code t (held l.waiting)) (nodes code t (held c.put.new.waiting)) l.invariant.2 (noded code t found) c.kid_found.ensures came,
+      another (window_of c.args.window) f l.q (omega arith) (nodes code t (held c.args.waiting.now)) (nodes code t (held l.waiting)) (nodes code t (held c.put.new.waiting)) l.invariant.2 (noded code t found) c.kid-found.ensures came,
     )

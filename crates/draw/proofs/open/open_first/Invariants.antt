@@ -8,8 +8,8 @@ use Rattle.draw.proofs.open.open_first.Given as goal
 
 abbrev pub invariant-loop-q : goal.invariant-loop-q
 invariant-loop-q g l =
-    Sound (ranked g.G.Grade.kind g.G.Grade.coded) l.waiting
+    Sound (ranked g.T.G.Grade.kind g.T.G.Grade.coded) l.waiting
     × (room l.waiting ≡ room l.initial.waiting)
-    × Opening (window_of l.window) (node g.G.Grade.coded (g.T.BoxTree.shown l.tree).tree l.top) l.q
-    (nodes g.G.Grade.coded (g.T.BoxTree.shown l.tree).tree (held l.initial.waiting))
-    (nodes g.G.Grade.coded (g.T.BoxTree.shown l.tree).tree (held l.waiting))
+    × Opening (window_of l.window) (node g.T.G.Grade.coded (g.T.BoxTree.shown l.tree).tree l.top) l.q
+    (nodes g.T.G.Grade.coded (g.T.BoxTree.shown l.tree).tree (held l.initial.waiting))
+    (nodes g.T.G.Grade.coded (g.T.BoxTree.shown l.tree).tree (held l.waiting))

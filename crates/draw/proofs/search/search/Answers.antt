@@ -13,7 +13,7 @@ loop-top-init g c = (
   refl,
   omega arith,
   refl,
-  begins g.G.Grade.kind g.G.Grade.coded (g.T.BoxTree.shown c.args.tree.now) c.requires.lawful (window_of c.args.window) (length c.args.list.now) c.requires.places
+  begins g.T.G.Grade.kind g.T.G.Grade.coded (g.T.BoxTree.shown c.args.tree.now) c.requires.lawful (window_of c.args.window) (length c.args.list.now) c.requires.places
       c.first-found.result (held c.args.waiting.now) (held c.put.new.waiting) c.args.list.now c.first-found.ensures c.requires.empty c.put.ensures.held,
 )
 
@@ -22,21 +22,21 @@ returns g c =
     let l = c.loop-top in
     record {
       draws =
-          empty g.G.Grade.kind g.met.G.Grade.laws g.G.Grade.coded (g.T.BoxTree.shown c.args.tree.now) c.requires.lawful (window_of c.args.window) (length c.args.list.now) c.requires.places
-          (held l.waiting) l.list l.listed l.opened l.invariant.2 l.invariant.5 c.in-default.ensures.held.0;
+          empty g.T.G.Grade.kind g.met.T.G.Grade.laws g.T.G.Grade.coded (g.T.BoxTree.shown c.args.tree.now) c.requires.lawful (window_of c.args.window) (length c.args.list.now) c.requires.places
+          (held l.waiting) l.list l.listed l.opened l.invariant.2 l.invariant.5 c.in_default.ensures.held.0;
       within = let a = l.invariant.2 in let b = l.invariant.3 in omega arith;
       size = l.invariant.2;
       rest = l.invariant.4;
     }
 
-pub overflow-add-opened : goal.overflow-add-opened
-overflow-add-opened g c =
+pub overflow_add-opened : goal.overflow_add-opened
+overflow_add-opened g c =
     let l = c.loop-top in
     let p = c.in-Some.ensures.held in
     let lt : l.listed < length c.args.list.now = omega (arith, l.invariant.2, l.invariant.3) in
-    let n = counts_on g.G.Grade.kind g.met.G.Grade.laws g.G.Grade.coded (g.T.BoxTree.shown c.args.tree.now) c.requires.lawful (window_of c.args.window) (length c.args.list.now)
+    let n = counts_on g.T.G.Grade.kind g.met.T.G.Grade.laws g.T.G.Grade.coded (g.T.BoxTree.shown c.args.tree.now) c.requires.lawful (window_of c.args.window) (length c.args.list.now)
     (held l.waiting) (held c.pop.new.self) c.in-Some.top p.0 p.1 l.list l.listed l.opened l.invariant.2 lt l.invariant.5 in
-    omega (arith, c.requires.lawful.small)
+    omega (arith, c.requires.small)
 
 pub open-requires : goal.open-requires
 open-requires g c =
@@ -53,11 +53,11 @@ open-requires g c =
       upright = c.requires.upright;
       lawful = c.requires.lawful;
       part =
-          top_part g.G.Grade.kind g.met.G.Grade.laws g.G.Grade.coded (g.T.BoxTree.shown c.args.tree.now) c.requires.lawful (window_of c.args.window) (length c.args.list.now)
+          top_part g.T.G.Grade.kind g.met.T.G.Grade.laws g.T.G.Grade.coded (g.T.BoxTree.shown c.args.tree.now) c.requires.lawful (window_of c.args.window) (length c.args.list.now)
           (held l.waiting) (held c.pop.new.self) c.in-Some.top p.0 p.1 l.list l.listed l.opened l.invariant.2 lt l.invariant.5;
       sound = c.in-Some.ensures.sound;
       place =
-          top_fits g.G.Grade.kind g.met.G.Grade.laws g.G.Grade.coded (g.T.BoxTree.shown c.args.tree.now) c.requires.lawful (window_of c.args.window) (length c.args.list.now)
+          top_fits g.T.G.Grade.kind g.met.T.G.Grade.laws g.T.G.Grade.coded (g.T.BoxTree.shown c.args.tree.now) c.requires.lawful (window_of c.args.window) (length c.args.list.now)
           (held l.waiting) (held c.pop.new.self) c.in-Some.top p.0 p.1 l.list l.listed l.opened l.invariant.2 lt l.invariant.5
           (room c.pop.new.self) enough;
     }
@@ -67,7 +67,7 @@ loop-top-smaller g c =
     let l = c.loop-top in
     let p = c.in-Some.ensures.held in
     let lt : l.listed < length c.args.list.now = omega (arith, l.invariant.2, l.invariant.3) in
-    lighter g.G.Grade.kind g.met.G.Grade.laws g.G.Grade.coded (g.T.BoxTree.shown c.args.tree.now) c.requires.lawful (window_of c.args.window) (length c.args.list.now)
+    lighter g.T.G.Grade.kind g.met.T.G.Grade.laws g.T.G.Grade.coded (g.T.BoxTree.shown c.args.tree.now) c.requires.lawful (window_of c.args.window) (length c.args.list.now)
     (held l.waiting) (held c.pop.new.self) c.in-Some.top p.0 p.1 l.list l.listed l.opened l.invariant.2 lt l.invariant.5
     c.enlist-listed.new.list c.enlist-listed.result c.enlist-listed.ensures (held c.open.new.waiting) (opened _ _ _ _ 4 refl c.open.ensures.held)
 
@@ -77,21 +77,21 @@ loop-top-preserved g c =
     let p = c.in-Some.ensures.held in
     let lt : l.listed < length c.args.list.now = omega (arith, l.invariant.2, l.invariant.3) in
     let size =
-    list_size g.G.Grade.kind g.met.G.Grade.laws g.G.Grade.coded (g.T.BoxTree.shown c.args.tree.now) c.requires.lawful (window_of c.args.window) (length c.args.list.now)
+    list_size g.T.G.Grade.kind g.met.T.G.Grade.laws g.T.G.Grade.coded (g.T.BoxTree.shown c.args.tree.now) c.requires.lawful (window_of c.args.window) (length c.args.list.now)
     (held l.waiting) (held c.pop.new.self) c.in-Some.top p.0 p.1 l.list l.listed l.opened l.invariant.2 lt l.invariant.5
     c.enlist-listed.new.list c.enlist-listed.result c.enlist-listed.ensures in
     let filled =
-    list_filled g.G.Grade.kind g.met.G.Grade.laws g.G.Grade.coded (g.T.BoxTree.shown c.args.tree.now) c.requires.lawful (window_of c.args.window) (length c.args.list.now)
+    list_filled g.T.G.Grade.kind g.met.T.G.Grade.laws g.T.G.Grade.coded (g.T.BoxTree.shown c.args.tree.now) c.requires.lawful (window_of c.args.window) (length c.args.list.now)
     (held l.waiting) (held c.pop.new.self) c.in-Some.top p.0 p.1 l.list l.listed l.opened l.invariant.2 lt l.invariant.5
     c.enlist-listed.new.list c.enlist-listed.result c.enlist-listed.ensures in (
       c.open.ensures.sound,
       c.open.ensures.room ∙ c.in-Some.ensures.room ∙ l.invariant.1,
       size,
       omega (arith, size, filled, eqb-false c.enlist-listed.result (length c.enlist-listed.new.list) (sym c.full.ensures ∙ c.if-full.false)),
-      list_rest g.G.Grade.kind g.met.G.Grade.laws g.G.Grade.coded (g.T.BoxTree.shown c.args.tree.now) c.requires.lawful (window_of c.args.window) (length c.args.list.now)
+      list_rest g.T.G.Grade.kind g.met.T.G.Grade.laws g.T.G.Grade.coded (g.T.BoxTree.shown c.args.tree.now) c.requires.lawful (window_of c.args.window) (length c.args.list.now)
           (held l.waiting) (held c.pop.new.self) c.in-Some.top p.0 p.1 l.list l.listed l.opened l.invariant.2 lt l.invariant.5
           c.enlist-listed.new.list c.enlist-listed.result c.enlist-listed.ensures c.args.list.now l.invariant.4,
-      runs_on g.G.Grade.kind g.met.G.Grade.laws g.G.Grade.coded (g.T.BoxTree.shown c.args.tree.now) c.requires.lawful (window_of c.args.window) (length c.args.list.now)
+      runs_on g.T.G.Grade.kind g.met.T.G.Grade.laws g.T.G.Grade.coded (g.T.BoxTree.shown c.args.tree.now) c.requires.lawful (window_of c.args.window) (length c.args.list.now)
           (held l.waiting) (held c.pop.new.self) c.in-Some.top p.0 p.1 l.list l.listed l.opened l.invariant.2 lt l.invariant.5
           c.enlist-listed.new.list c.enlist-listed.result c.enlist-listed.ensures (held c.open.new.waiting) (opened _ _ _ _ 4 refl c.open.ensures.held),
     )
@@ -102,22 +102,22 @@ returns-then-full g c =
     let p = c.in-Some.ensures.held in
     let lt : l.listed < length c.args.list.now = omega (arith, l.invariant.2, l.invariant.3) in
     let size =
-    list_size g.G.Grade.kind g.met.G.Grade.laws g.G.Grade.coded (g.T.BoxTree.shown c.args.tree.now) c.requires.lawful (window_of c.args.window) (length c.args.list.now)
+    list_size g.T.G.Grade.kind g.met.T.G.Grade.laws g.T.G.Grade.coded (g.T.BoxTree.shown c.args.tree.now) c.requires.lawful (window_of c.args.window) (length c.args.list.now)
     (held l.waiting) (held c.pop.new.self) c.in-Some.top p.0 p.1 l.list l.listed l.opened l.invariant.2 lt l.invariant.5
     c.enlist-listed.new.list c.enlist-listed.result c.enlist-listed.ensures in
     let filled =
-    list_filled g.G.Grade.kind g.met.G.Grade.laws g.G.Grade.coded (g.T.BoxTree.shown c.args.tree.now) c.requires.lawful (window_of c.args.window) (length c.args.list.now)
+    list_filled g.T.G.Grade.kind g.met.T.G.Grade.laws g.T.G.Grade.coded (g.T.BoxTree.shown c.args.tree.now) c.requires.lawful (window_of c.args.window) (length c.args.list.now)
     (held l.waiting) (held c.pop.new.self) c.in-Some.top p.0 p.1 l.list l.listed l.opened l.invariant.2 lt l.invariant.5
     c.enlist-listed.new.list c.enlist-listed.result c.enlist-listed.ensures in
     record {
       draws =
-          fills g.G.Grade.kind g.met.G.Grade.laws g.G.Grade.coded (g.T.BoxTree.shown c.args.tree.now) c.requires.lawful (window_of c.args.window) (length c.args.list.now)
+          fills g.T.G.Grade.kind g.met.T.G.Grade.laws g.T.G.Grade.coded (g.T.BoxTree.shown c.args.tree.now) c.requires.lawful (window_of c.args.window) (length c.args.list.now)
           (held l.waiting) (held c.pop.new.self) c.in-Some.top p.0 p.1 l.list l.listed l.opened l.invariant.2 lt l.invariant.5
           c.enlist-listed.new.list c.enlist-listed.result c.enlist-listed.ensures c.requires.places (omega (arith, size, filled, eqb-true c.enlist-listed.result (length c.enlist-listed.new.list) (sym c.full.ensures ∙ c.if-full.true)));
       within = filled;
       size = size;
       rest =
-          list_rest g.G.Grade.kind g.met.G.Grade.laws g.G.Grade.coded (g.T.BoxTree.shown c.args.tree.now) c.requires.lawful (window_of c.args.window) (length c.args.list.now)
+          list_rest g.T.G.Grade.kind g.met.T.G.Grade.laws g.T.G.Grade.coded (g.T.BoxTree.shown c.args.tree.now) c.requires.lawful (window_of c.args.window) (length c.args.list.now)
           (held l.waiting) (held c.pop.new.self) c.in-Some.top p.0 p.1 l.list l.listed l.opened l.invariant.2 lt l.invariant.5
           c.enlist-listed.new.list c.enlist-listed.result c.enlist-listed.ensures c.args.list.now l.invariant.4;
     }

@@ -8,12 +8,12 @@ use Rattle.draw.proofs.search.search.Given as goal
 
 abbrev pub invariant-loop-top : goal.invariant-loop-top
 invariant-loop-top g l =
-    Sound (ranked g.G.Grade.kind g.G.Grade.coded) l.waiting
+    Sound (ranked g.T.G.Grade.kind g.T.G.Grade.coded) l.waiting
     × (room l.waiting ≡ room l.initial.waiting)
     × (length l.list ≡ length l.initial.list)
     × (l.listed < length l.list)
     × (drop l.listed l.list ≡ drop l.listed l.initial.list)
-    × Running g.G.Grade.kind g.G.Grade.coded (g.T.BoxTree.shown l.tree) (window_of l.window) (length l.initial.list) (held l.waiting) l.list l.listed l.opened
+    × Running g.T.G.Grade.kind g.T.G.Grade.coded (g.T.BoxTree.shown l.tree) (window_of l.window) (length l.initial.list) (held l.waiting) l.list l.listed l.opened
 
 abbrev pub decreases-loop-top : goal.decreases-loop-top
-decreases-loop-top g l = weight (nodes g.G.Grade.coded (g.T.BoxTree.shown l.tree).tree (held l.waiting))
+decreases-loop-top g l = weight (nodes g.T.G.Grade.coded (g.T.BoxTree.shown l.tree).tree (held l.waiting))
