@@ -2,6 +2,7 @@
 //!
 //! Its first argument is the number of marks. With the second argument `time` it also prints the microseconds of a draw.
 #![tactic(auto)]
+
 ghost use Rattle.std.specs.Prelude.{◌≡◌, ℕ, ◌+◌, ◌*◌, ◌/◌, ◌%◌, ◌^◌, ◌<◌, ◌≤◌, length};
 ghost use Rattle.grade.specs.Kinds.{points};
 ghost use Rattle.plan.specs.Plans.{Sound};
@@ -91,7 +92,7 @@ fn usage(rt: &HostRuntime) -> io::Result<()> {
     eprintln!(rt;
         "bench: give the number of marks, 0 to 65535, and if draws shall be timed the word time"
     )?;
-    Err(io::Error::from_static_message(io::ErrorKind::InvalidInput, "the arguments cannot be used"))
+    Err(io::ErrorKind::InvalidInput.into())
 }
 
 // Enters marks until there are so many. A cell that is marked already is passed over.
@@ -164,7 +165,8 @@ fn report_line(
 {
     let start = Instant::now(rt)?;
     let Ok(totals) = draw_all(plan, queue, list, side, k) else {
-        return Err(io::Error::from_static_message(io::ErrorKind::Other, "a draw was refused"));
+        eprintln!(rt; "bench: a draw was refused")?;
+        return Err(io::ErrorKind::Other.into());
     };
     let time = start.elapsed(rt)?;
     print!(rt;
