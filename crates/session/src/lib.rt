@@ -2,6 +2,7 @@
 #![tactic(auto)]
 
 mod answer;
+mod draw;
 mod session;
 
 pub use session::Session;
