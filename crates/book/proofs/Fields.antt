@@ -1,10 +1,10 @@
 -- A text begins with one field at most, and is the fields of one list of numbers at most; so a loop that reads field after
 -- field finds the numbers if there are any.
-use Rattle.std.proofs.Common.{◌≡◌, ℕ, ◌+◌, ◌<◌, ◌≤◌, List, [], ◌∷◌, ◌++◌, length, get_or, take, drop, set, sym, refl, ap, ◌∙◌, subst, arith, take-append-drop}
+use Rattle.std.proofs.Common.{◌≡◌, ℕ, ◌+◌, ◌<◌, ◌≤◌, List, [], ◌∷◌, ◌++◌, length, get_or, take, drop, set, sym, refl, ap, ◌∙◌, subst, arith, take-append-drop, All}
 use Rattle.std.proofs.lemmas.List.FromFn.{fill_by_all}
-use Rattle.std.proofs.lemmas.List.{append_assoc, append-nil, drop_all, drop_more, length-take-le, nil_from_length, take_all, take_more_set}
+use Rattle.std.proofs.lemmas.List.{append_assoc, append-nil, drop_more, length-take-le, nil_from_length, take_all, take_more_set}
 use Rattle.std.proofs.lemmas.Slice.{first_rest}
-use Rattle.std.specs.List.{between, AllByRecursion as All}
+use Rattle.std.specs.List.{between}
 use Rattle.book.specs.Grammar.{Digit, NoDigit, Field, Fields, listed, value}
 use Rattle.book.proofs.Numerals.{digits_once}
 
@@ -32,18 +32,7 @@ fields_once text (m ∷ ms) (n ∷ ns) f g =
 pub after_space : (text : List ℕ) → 0 < length text → get_or text 0 0 ≡ 32 → text ≡ 32 ∷ between 1 (length text) text
 after_space text h e = rw (← e) (first_rest text 0 h)
 
--- `count` digits stand after the space, and no more: then the field there is of these digits
-pub field_made : (text tail : List ℕ) (count n : ℕ) → text ≡ 32 ∷ tail → count ≤ length tail → All Digit (take count tail) → NoDigit (drop count tail) → 1 ≤ count → count ≤ 5 → n ≡ value (take count tail) → n ≤ 65535 → Field text n (drop count tail)
-field_made text tail count n e b d s x y v m =
-    let l = length-take-le count tail b in
-    record {
-      digits = take count tail;
-      parts = e ∙ ap (λ (t : List ℕ). 32 ∷ t) (sym (take-append-drop count tail));
-      numeral = record { some = omega arith; few = omega arith; decimal = d; means = sym v; small = m };
-      whole = s;
-    }
-
--- and there is no field where they are too few, too many or too large
+-- `count` digits stand after the space, and no more: there is no field where they are too few, too many or too large
 pub no_field : (text tail : List ℕ) (count : ℕ) → text ≡ 32 ∷ tail → count ≤ length tail → All Digit (take count tail) → NoDigit (drop count tail) → (1 ≤ count → count ≤ 5 → value (take count tail) < 65536 → ⊥) → (n : ℕ) (rest : List ℕ) → Field text n rest → ⊥
 no_field text tail count e b d s x n rest f =
     let t : f.digits ++ rest ≡ take count tail ++ drop count tail = tails 32 32 _ _ (sym f.parts ∙ e) ∙ sym (take-append-drop count tail) in
@@ -81,8 +70,3 @@ pub front_all : (text rest ms : List ℕ) (n i : ℕ) → length ms ≡ n → n 
 front_all text rest ms n i l h z f =
     let e = fill_by_all (λ k. get_or ms k 0) ms n 0 l (λ k m. refl) in
     let t = take_all i ms (omega arith) in rw (← e, ← t, ← append-nil (take i ms)) (f [] (nil_from_length rest z))
-
--- something follows the last field
-pub back_all : (text rest : List ℕ) (n i : ℕ) → n ≤ i → 0 < length rest → Back text n i rest → (ns : List ℕ) → length ns ≡ n → Fields text ns → ⊥
-back_all text rest n i h z b ns l f =
-    let e : rest ≡ [] = rw (drop_all i ns (omega arith)) at (b ns l f) in omega (arith, ap length e)

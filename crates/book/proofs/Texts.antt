@@ -1,8 +1,7 @@
 -- A text has one first line, which ends before the first byte 10, and the text after it is shorter.
-use Rattle.std.proofs.Common.{◌≡◌, ℕ, ◌+◌, ◌<◌, ◌≢◌, List, [], ◌∷◌, ◌++◌, length, get_or, take, drop, sym, refl, ap, ◌∙◌, subst, inl, inr, arith, length-append, take-append-drop}
-use Rattle.std.proofs.ByRecursion.{All-from_get_or}
+use Rattle.std.proofs.Common.{◌≡◌, ℕ, ◌+◌, ◌<◌, ◌≢◌, List, [], ◌∷◌, ◌++◌, length, get_or, take, drop, sym, refl, ap, ◌∙◌, subst, inl, inr, arith, length-append, take-append-drop, All}
+use Rattle.std.proofs.lemmas.List.Elements.{All-head, All-tail, All-from_get_or}
 use Rattle.std.proofs.lemmas.List.{drop_more, get_or-take, length-take-le}
-use Rattle.std.specs.List.{AllByRecursion as All}
 use Rattle.book.specs.Lines.{newline, FirstLine, Lines, OneSplit}
 
 abbrev Unbroken : List ℕ → Type 0
@@ -40,15 +39,15 @@ rest_shorter text line rest f =
 -- a line goes up to the first byte 10 and no further
 cut_once : (l m r s : List ℕ) → Unbroken l → Unbroken m → l ++ (newline ∷ r) ≡ m ++ (newline ∷ s) → (l ≡ m) × (r ≡ s)
 cut_once [] [] r s h k e = (refl, cc)
-cut_once [] (b ∷ m) r s h k e = absurd (k.0 (cc))
-cut_once (b ∷ l) [] r s h k e = absurd (h.0 (cc))
+cut_once [] (b ∷ m) r s h k e = absurd (All-head (λ c. c ≢ newline) b m k cc)
+cut_once (b ∷ l) [] r s h k e = absurd (All-head (λ c. c ≢ newline) b l h cc)
 cut_once (b ∷ l) (d ∷ m) r s h k e =
     let t : l ++ (newline ∷ r) ≡ m ++ (newline ∷ s) = cc in
-    let p = cut_once l m r s h.1 k.1 t in (cc (p.0, e), p.1)
+    let p = cut_once l m r s (All-tail (λ c. c ≢ newline) b l h) (All-tail (λ c. c ≢ newline) d m k) t in (cc (p.0, e), p.1)
 
 broken : (l r : List ℕ) → Unbroken (l ++ (newline ∷ r)) → ⊥
-broken [] r h = h.0 refl
-broken (b ∷ l) r h = broken l r h.1
+broken [] r h = All-head (λ c. c ≢ newline) newline r h refl
+broken (b ∷ l) r h = broken l r (All-tail (λ c. c ≢ newline) b (l ++ (newline ∷ r)) h)
 
 first_line_once : (text l m r s : List ℕ) → FirstLine text l r → FirstLine text m s → (l ≡ m) × (r ≡ s)
 first_line_once text l m r s f g =

@@ -14,8 +14,8 @@
 --   Allowed c             the numbers of c are not past what the command takes
 --   Says line c           line is the text of the command c
 --   OneCommand            no line says two commands
-use Rattle.std.specs.Prelude.{◌≡◌, ℕ, ◌+◌, ◌-◌, ◌*◌, ◌≤◌, List, [], ◌∷◌, ◌++◌, map, length, fold, slice_index}
-use Rattle.std.specs.List.{range_with_len, AllByRecursion as All}
+use Rattle.std.specs.Prelude.{◌≡◌, ℕ, ◌+◌, ◌-◌, ◌*◌, ◌≤◌, List, [], ◌∷◌, ◌++◌, map, length, fold, slice_index, All}
+use Rattle.std.specs.List.{range_with_len}
 use Rattle.book.specs.declared.command.Command.{Command}
 use Rattle.book.specs.declared.command.Command.TheVariants.{New, Enter, Regrade, Strike, Look, Draw}
 

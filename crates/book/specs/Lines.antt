@@ -7,8 +7,7 @@
 --                         line and the byte 10 that ends it
 --   Lines text ls         ls are the lines of text, in their order
 --   OneSplit              no text has two lists of lines
-use Rattle.std.specs.Prelude.{◌≡◌, ℕ, ◌≢◌, ◌⊎◌, List, [], ◌∷◌, ◌++◌}
-use Rattle.std.specs.List.{AllByRecursion as All}
+use Rattle.std.specs.Prelude.{◌≡◌, ℕ, ◌≢◌, ◌⊎◌, List, [], ◌∷◌, ◌++◌, All}
 
 abbrev pub newline : ℕ
 newline = 10

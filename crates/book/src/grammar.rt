@@ -1,7 +1,6 @@
 //! The grammar of a line: a letter and its fields, each of them one space and a number.
-ghost use Rattle.std.specs.Prelude.{◌≡◌, ℕ, ◌≤◌, List, ◌∷◌, length, take, drop, MatchResult};
+ghost use Rattle.std.specs.Prelude.{◌≡◌, ℕ, ◌≤◌, List, ◌∷◌, length, take, drop, MatchResult, All};
 ghost use Rattle.book.specs.Grammar.{Digit, Field, Fields, NoDigit, OneCommand, Says, listed, value};
-ghost use Rattle.std.specs.List.{AllByRecursion as All};
 
 use crate::command::{Command, Unusable};
 

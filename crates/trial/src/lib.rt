@@ -1,10 +1,13 @@
-//! Trials of grades, plans and the lines of a book: what a user of them sees.
+//! Trials of grades, plans, layers, draws and the lines of a book: what a user of them sees.
 #![tactic(auto)]
-
 #[cfg(test)]
 mod answers;
 #[cfg(test)]
+mod draws;
+#[cfg(test)]
 mod grades;
+#[cfg(test)]
+mod layers;
 #[cfg(test)]
 mod lines;
 #[cfg(test)]
@@ -12,8 +15,14 @@ mod places;
 #[cfg(test)]
 mod plans;
 #[cfg(test)]
+mod queues;
+#[cfg(test)]
 mod runs;
+#[cfg(test)]
+mod scans;
 #[cfg(test)]
 mod small;
 #[cfg(test)]
 mod table;
+#[cfg(test)]
+mod tallies;

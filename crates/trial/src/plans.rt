@@ -227,7 +227,7 @@ fn a_plan_opened_again_has_no_marks(rt: HostRuntime) -> Result<(), Fail> {
     Ok(())
 }
 
-fn monument(row: u16, col: u16, class: u16, year: u16) -> Result<Mark<Monument>, Fail> {
+pub(crate) fn monument(row: u16, col: u16, class: u16, year: u16) -> Result<Mark<Monument>, Fail> {
     match Monument::new(class, year) {
         Ok(grade) => Ok(Mark { row, col, grade }),
         Err(_) => Err(Fail::new("no such grade")),

@@ -9,7 +9,7 @@ use plan::{Place, Plan};
 use std::process::Abort;
 use std::test::Fail;
 
-fn enter_marks(rt: &impl Abort, plan: &mut Plan<'_, Points>) -> Result<(), Fail>
+pub(crate) fn enter_marks(rt: &impl Abort, plan: &mut Plan<'_, Points>) -> Result<(), Fail>
     requires { Sound points (λ g. g.value) plan.old }
     ensures { Sound points (λ g. g.value) plan.new }
 {

@@ -108,12 +108,12 @@ impl Table {
 
 // A fixed row of numbers that looks random: linear congruential, of 64 bits.
 #[derive(Drop)]
-struct Dice {
-    state: u64,
+pub(crate) struct Dice {
+    pub(crate) state: u64,
 }
 
 impl Dice {
-    fn next(&mut self) -> u16 {
+    pub(crate) fn next(&mut self) -> u16 {
         self.state = self
             .state
             .wrapping_mul(6364136223846793005)

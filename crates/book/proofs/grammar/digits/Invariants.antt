@@ -1,6 +1,5 @@
 -- Every byte that was passed is a digit.
-use Rattle.std.proofs.Common.{take}
-use Rattle.std.specs.List.{AllByRecursion as All}
+use Rattle.std.proofs.Common.{take, All}
 use Rattle.book.specs.Grammar.{Digit}
 use Rattle.book.proofs.grammar.digits.Given as goal
 

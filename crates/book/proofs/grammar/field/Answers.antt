@@ -1,7 +1,6 @@
--- The digits after a space are those of the only field that can stand there.
+-- Where the digits after a space are too few, too many or too large, no field stands there.
 use Rattle.std.proofs.Common.{arith, rules}
-use Rattle.std.proofs.lemmas.List.{take_rest}
-use Rattle.book.proofs.Fields.{after_space, field_made, no_field}
+use Rattle.book.proofs.Fields.{after_space, no_field}
 use Rattle.book.proofs.grammar.field.Goals as goal
 
 pub returns-then-count-eq0 : goal.returns-then-count-eq0
@@ -17,6 +16,3 @@ returns-in_default-try_from c =
     let count = c.digits-count in
     no_field text _ count.result (after_space text (search rules) (search rules)) count.ensures.bound count.ensures.front count.ensures.rest
     (λ some few small. c.in_default-try_from.ensures (search rules))
-
-pub returns : goal.returns
-returns c = search (rules, after_space, take_rest, field_made)

@@ -1,8 +1,7 @@
 -- Reading field after field finds the numbers of a text, or shows that there are none.
 use Rattle.std.proofs.Common.{arith, rules}
-use Rattle.std.proofs.lemmas.List.{length-replicate}
 use Rattle.std.proofs.lemmas.Result.{MatchResult-from_err}
-use Rattle.book.proofs.Fields.{front_more, back_more, back_stuck, front_all, back_all}
+use Rattle.book.proofs.Fields.{front_more, back_more, back_stuck, front_all}
 use Rattle.book.proofs.grammar.fields.Goals as goal
 
 pub returns-in_err-value : goal.returns-in_err-value
@@ -10,9 +9,6 @@ returns-in_err-value g c =
     let at = c.loop-number in
     MatchResult-from_err c.from_residual.result _ _ c.from_residual.ensures.0
     (λ _. back_stuck c.args.text.now at.rest.now g.row.N at.number-index c.loop-number-test.true at.invariant.1 c.in_err-value.ensures)
-
-pub loop-number-init : goal.loop-number-init
-loop-number-init g c = (λ ns f. f, λ ns l f. f, length-replicate g.row.N 0)
 
 pub loop-number-preserved : goal.loop-number-preserved
 loop-number-preserved g c =
@@ -27,8 +23,3 @@ pub returns-then-is_empty : goal.returns-then-is_empty
 returns-then-is_empty g c =
     let at = c.loop-number in
     front_all c.args.text.now at.rest.now at.number-items g.row.N at.number-index at.invariant.2 c.loop-number-test.false (search rules) at.invariant.0
-
-pub returns-else-is_empty : goal.returns-else-is_empty
-returns-else-is_empty g c =
-    let at = c.loop-number in
-    back_all c.args.text.now at.rest.now g.row.N at.number-index c.loop-number-test.false (search rules) at.invariant.1
