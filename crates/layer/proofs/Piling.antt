@@ -11,7 +11,7 @@ use Rattle.treap.proofs.Meanings.{shift_fits}
 use Rattle.treap.proofs.Summed.{add_on, moved_square_none, moved_square_again, one_floor_one_shift_lem}
 use Rattle.layer.specs.declared.pile.Layer.{Layer}
 use Rattle.layer.specs.declared.pile.Layer.TheVariants.{Floor, Shift}
-use Rattle.layer.specs.Piles.{layer_of, layers_of, sum_of}
+use Rattle.layer.specs.Piles.{layers_of, sum_of}
 
 -- whether a pile is refused hangs on the square alone
 same_square : (k : Kind) (p : List piles.Layer) (m n : Meaning) → m.square ≡ n.square → piles.pile_refusal k p m ≡ piles.pile_refusal k p n
@@ -33,9 +33,6 @@ module _ {G : Type 0} (k : Kind) (code : G → ℕ) (layers : List (Layer G)) (m
 
   pub none_moved : Moved 0 0 0
   none_moved = same_square k (layers_of code layers) (shifted 0 0 m) m (moved_square_none m.square)
-
-  pub all_moved : (i down along : ℕ) → length layers ≤ i → Moved i down along → None ≡ piles.pile_refusal k (layers_of code layers) m
-  all_moved i down along le h = ap (λ (l : List (Layer G)). piles.pile_refusal k (layers_of code l) (shifted down along m)) (sym (drop_all i layers le)) ∙ h
 
   pub all_summed : (i : ℕ) (least : Option G) (down along : ℕ) → length layers ≤ i → Summed i least down along → sum_of code least down along ≡ piles.summed k (layers_of code layers)
   all_summed i least down along le h = ap (λ (l : List (Layer G)). piles.summed_from k (sum_of code least down along) (layers_of code l)) (sym (drop_all i layers le)) ∙ h

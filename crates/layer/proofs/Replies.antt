@@ -1,15 +1,14 @@
 -- What the layers answer, from what is answered below.
-use Rattle.std.proofs.Common.{◌≡◌, ℕ, zero, suc, ◌+◌, ◌^◌, ◌<◌, ◌≤◌, Bool, true, false, cond, ltb, Some, None, Ok, Err, Option, Result, sym, refl, ap, ◌∙◌, subst, inl, inr, arith, pow_mono}
-use native.Mathlib.Decide.{dec_le}
+use Rattle.std.proofs.Common.{◌≡◌, ℕ, Bool, true, false, cond, ltb, Some, None, Ok, Err, Option, sym, refl, ap, ◌∙◌, arith}
 use Rattle.grade.specs.Kind.{Kind, Laws}
 use Rattle.boxtree.specs.declared.refusal.Absent.{Absent}
 use Rattle.treap.specs.Spots.{Spot}
-use Rattle.treap.specs.Trees.{Square, Within, Tree, none, box, number, sub, find, Shows, Meaning, Lawful}
-use Rattle.treap.specs.Layers.{kept, floor, moved, moved_spot}
+use Rattle.treap.specs.Trees.{Tree, none, box, number, sub, find, Meaning, Lawful}
+use Rattle.treap.specs.Layers.{floor, moved, moved_spot}
 use Rattle.boxtree.specs.Answers.{absent, child_of, mark_of}
-use Rattle.treap.proofs.Find.{number_none, no_number, find_sub, find_shown, ordered_find}
+use Rattle.treap.proofs.Find.{number_none, no_number, find_sub, ordered_find}
 use Rattle.treap.proofs.Meanings.{sub_moved, number_moved, find_moved, sub_floor, find_floor}
-use Rattle.boxtree.proofs.Replies.{mark_err, mark_shown, child_number}
+use Rattle.boxtree.proofs.Replies.{mark_err, child_number}
 
 module _ (r c : ℕ) where
   child_moved : (q : ℕ) (t : Tree) → child_of q (moved r c t) ≡ child_of q t

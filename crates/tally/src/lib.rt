@@ -1,5 +1,6 @@
 //! Tallies of draws.
 #![tactic(auto)]
+
 mod tally;
 
 pub use tally::{Tally, TallyFull};

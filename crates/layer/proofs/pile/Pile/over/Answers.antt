@@ -8,22 +8,22 @@ pub loop-i-init : goal.loop-i-init
 loop-i-init g c =
     (none_moved g.T.G.Grade.kind g.T.G.Grade.coded c.args.layers.now (g.T.BoxTree.shown c.args.below.now), refl)
 
-pub overflow-add-down : goal.overflow-add-down
-overflow-add-down g c =
+pub overflow_add-down : goal.overflow_add-down
+overflow_add-down g c =
     let m = g.T.BoxTree.shown c.args.below.now in
     let l = c.loop-i in
-    let y = c.layer-at in
+    let y = c.layer_at in
     let v = c.in-Shift in
     let inside =
     shift_within g.T.G.Grade.kind g.T.G.Grade.coded c.args.layers.now m l.i l.down l.along y.result c.loop-i-test.true y.ensures
     v.rows v.cols v.is c.requires.unrefused l.invariant.0 in
     omega (arith, (within _ _ m inside).0)
 
-pub overflow-add-along : goal.overflow-add-along
-overflow-add-along g c =
+pub overflow_add-along : goal.overflow_add-along
+overflow_add-along g c =
     let m = g.T.BoxTree.shown c.args.below.now in
     let l = c.loop-i in
-    let y = c.layer-at in
+    let y = c.layer_at in
     let v = c.in-Shift in
     let inside =
     shift_within g.T.G.Grade.kind g.T.G.Grade.coded c.args.layers.now m l.i l.down l.along y.result c.loop-i-test.true y.ensures
@@ -37,12 +37,12 @@ loop-i-preserved g c =
     let layers = c.args.layers.now in
     let m = g.T.BoxTree.shown c.args.below.now in
     let l = c.loop-i in
-    let y = c.layer-at in
-    elim c.match-layer-at.branch [
+    let y = c.layer_at in
+    elim c.match-layer_at.branch [
       | in-Floor w ↦
           rw (w.least-is, w.down-is, w.along-is) (
             floor_moved k code layers m l.i l.down l.along y.result c.loop-i-test.true y.ensures _ w.in-Floor.is l.invariant.0,
-            floor_summed k code layers m l.i l.down l.along y.result c.loop-i-test.true y.ensures _ l.least _ w.in-Floor.is w.stricter-of-least.ensures l.invariant.1,
+            floor_summed k code layers m l.i l.down l.along y.result c.loop-i-test.true y.ensures _ l.least _ w.in-Floor.is w.stricter_of-least.ensures l.invariant.1,
           )
       | in-Shift w ↦
           let inside =
