@@ -16,8 +16,7 @@ use grade::points::Points;
 use layer::floor::Floor;
 use layer::pile::{Layer, Pile, check_pile};
 use layer::shift::{Shift, check_shift};
-use plan::{Place, Plan};
-use plan::Call;
+use plan::{Call, Place, Plan};
 use std::process::Abort;
 use std::test::Fail;
 

@@ -1,5 +1,6 @@
 //! Trials of grades, plans, layers, draws and the lines of a book: what a user of them sees.
 #![tactic(auto)]
+
 #[cfg(test)]
 mod answers;
 #[cfg(test)]

@@ -3,4 +3,4 @@ use Rattle.plan.specs.Plans.{Sound}
 use Rattle.trial.proofs.scans.fill.Given as goal
 
 abbrev pub invariant-loop-turn : goal.invariant-loop-turn
-invariant-loop-turn l = Sound points (λ g. g.value) l.plan
+invariant-loop-turn g l = Sound points (λ g. g.value) l.plan
