@@ -1,15 +1,13 @@
 -- What the answers of a box tree tell.
-use Rattle.std.proofs.Common.{◌≡◌, ℕ, zero, suc, ◌+◌, ◌^◌, ◌<◌, ◌≤◌, Bool, true, false, cond, ltb, Some, None, Ok, Err, Option, Result, sym, refl, ap, ◌∙◌, subst, inl, inr, arith, pow_mono}
+use Rattle.std.proofs.Common.{◌≡◌, ℕ, ◌^◌, ◌≤◌, Bool, true, false, ltb, Ok, Err, Option, refl, inl, arith, pow_mono}
 use native.Mathlib.Decide.{dec_le}
-use Rattle.grade.specs.Kind.{Kind, Laws}
+use Rattle.grade.specs.Kind.{Kind}
 use Rattle.boxtree.specs.declared.refusal.Absent.{Absent}
 use Rattle.treap.specs.Spots.{Spot}
-use Rattle.treap.specs.Trees.{Square, Within, Tree, none, box, number, sub, find, Shows, Meaning, Lawful}
-use Rattle.treap.specs.Layers.{kept, floor, moved, moved_spot}
+use Rattle.treap.specs.Trees.{Within, Tree, none, box, number, sub, find, Shows, Meaning, Lawful}
 use Rattle.boxtree.specs.Answers.{absent, child_of, mark_of}
 use Rattle.treap.proofs.Shown.{shown_holds}
-use Rattle.treap.proofs.Find.{number_none, no_number, find_sub, find_shown, ordered_find}
-use Rattle.treap.proofs.Meanings.{sub_moved, number_moved, find_moved, sub_floor, find_floor}
+use Rattle.treap.proofs.Find.{find_shown}
 
 pub mark_err : (t : Tree) (e : Absent) → Err e ≡ mark_of t → t ≡ none
 mark_err none e h = refl

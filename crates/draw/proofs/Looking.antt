@@ -1,20 +1,18 @@
 -- What is known of a box that is looked at.
-use Rattle.std.proofs.Common.{◌≡◌, ℕ, zero, suc, pred, ◌+◌, ◌-◌, ◌*◌, ◌%◌, ◌^◌, ◌<◌, ◌≤◌, max, Bool, true, false, cond, not, ltb, leb, ◌⊎◌, Some, None, Ok, Err, Option, sym, refl, ap, ◌∙◌, subst, subst₂, inl, inr, sub-one, arith, pow_pos, pow_mono, w16, Fits}
+use Rattle.std.proofs.Common.{◌≡◌, ℕ, zero, suc, pred, ◌+◌, ◌-◌, ◌*◌, ◌%◌, ◌^◌, ◌<◌, ◌≤◌, max, true, false, ltb, leb, Some, None, Ok, sym, refl, ap, ◌∙◌, inl, inr, sub-one, arith, pow_pos, w16, Fits}
 use Rattle.std.proofs.lemmas.Nat.{one_shl}
-use Rattle.std.proofs.lemmas.Bool.Decides.{nat_tests}
-use Rattle.std.proofs.lemmas.Bool.{true≢false, false≢true, and_parts, leb-true, ltb-true, le-leb, lt-ltb}
-use Rattle.grade.specs.Kind.{Kind, Laws}
+use Rattle.std.proofs.lemmas.Bool.{true≢false, and_parts, leb-true, ltb-true, le-leb, lt-ltb}
+use Rattle.grade.specs.Kind.{Kind}
 use Rattle.treap.specs.Spots.{Spot}
-use Rattle.treap.specs.Trees.{Quadrant, tl, tr, bl, br, Square, Within, quadrant, Tree, none, box, pick, number, sub, find, numbers, Hangs, Ordered, Apart, Meaning, Lawful}
+use Rattle.treap.specs.Trees.{Quadrant, tl, tr, bl, br, Square, quadrant, Tree, none, box, pick, number, sub, find, Hangs, Ordered, Meaning, Lawful}
 use Rattle.treap.specs.Draws.{Window, Sees, Touches, Part, whole, deeper}
 use Rattle.treap.specs.Searches.{Node, tree, child}
-use Rattle.treap.proofs.Shown.{halves, hangs, lawful_quadrant}
+use Rattle.treap.proofs.Shown.{halves, hangs}
 use Rattle.treap.proofs.Needed.{part_lawful}
-use Rattle.treap.proofs.Find.{found, Found, number_none, no_number, find_sub, find_part}
+use Rattle.treap.proofs.Find.{found, Found, number_none, find_sub, find_part}
 use Rattle.boxtree.specs.Answers.{child_of, mark_of}
-use Rattle.boxtree.specs.declared.refusal.Absent.{Absent}
 use Rattle.boxtree.proofs.Replies.{child_number}
-use Rattle.draw.specs.Nodes.{Upright, touching, seeing, nth, Looked}
+use Rattle.draw.specs.Nodes.{Upright, touching, seeing, nth}
 
 pub half_fits : (l x : ℕ) → 0 < l → l ≤ 16 → x + 2 ^ l ≤ 65536 → Fits w16 (x + (1 * 2 ^ (l - 1)) % 65536)
 half_fits l x p h f =

@@ -1,18 +1,18 @@
 -- The boxes right below a box come in one by one.
-use Rattle.std.proofs.Common.{◌≡◌, ℕ, zero, suc, ◌+◌, ◌<◌, ◌≤◌, Bool, true, false, ◌⊎◌, List, [], ◌∷◌, ◌++◌, map, length, get_or, set, is_some, Some, None, sum_by, Option, sym, refl, ap, ◌∙◌, subst, inl, inr, add-one, arith}
+use Rattle.std.proofs.Common.{◌≡◌, ℕ, zero, suc, ◌+◌, ◌<◌, ◌≤◌, true, List, [], ◌∷◌, ◌++◌, map, length, get_or, set, is_some, Some, None, Option, sym, refl, ap, ◌∙◌, subst, add-one, arith}
 use lib.ListN.{length-map, get_or-map}
 use lib.Seq.{map-set}
 use Rattle.std.specs.List.Sorted.{IsPermutation, apply_swaps, SwapsInRange}
 use Rattle.std.specs.List.{swap}
 use Rattle.std.proofs.lemmas.List.Sorted.{IsPermutation-refl, IsPermutation-trans, IsPermutation-cons, sum_by-IsPermutation}
 use Rattle.std.proofs.lemmas.List.Sums.{sum_by-cons, sum_by-append}
-use Rattle.treap.specs.Trees.{Quadrant, index, Square, quadrant, Tree, none, box, sub, count}
+use Rattle.treap.specs.Trees.{index, Square, quadrant, Tree, sub, count}
 use Rattle.treap.specs.Draws.{Window, Touches}
 use Rattle.treap.specs.Searches.{Node, tree, child, KidsBelow}
 use Rattle.treap.proofs.Walks.{Kids}
 use Rattle.treap.proofs.Kids.{kids_none, kids_skip, kids_push, kids_all}
 use Rattle.draw.specs.declared.entry.Entry.{Entry}
-use Rattle.draw.specs.Nodes.{nth, node, noded, nodes, Looked, weight}
+use Rattle.draw.specs.Nodes.{nth, noded, nodes, Looked, weight}
 use Rattle.draw.specs.Opened.{with, few, Opening}
 use Rattle.draw.proofs.Looking.{sub_nth}
 

@@ -1,17 +1,17 @@
 -- The search runs: what holds from turn to turn.
-use Rattle.std.proofs.Common.{◌≡◌, ℕ, zero, suc, ◌+◌, ◌<◌, ◌≤◌, Bool, true, false, cond, ◌⊎◌, List, [], ◌∷◌, ◌++◌, map, length, take, drop, set, Some, None, sum_by, Option, sym, refl, ap, ◌∙◌, subst, subst₂, inl, inr, arith}
+use Rattle.std.proofs.Common.{◌≡◌, ℕ, ◌+◌, ◌<◌, ◌≤◌, Bool, true, false, cond, ◌⊎◌, List, [], ◌∷◌, ◌++◌, map, length, take, drop, set, Some, None, Option, sym, refl, ap, ◌∙◌, subst, subst₂, inl, inr, arith}
 use lib.ListN.{length-map}
 use Rattle.std.specs.List.Sorted.{IsPermutation}
 use Rattle.std.specs.List.{AllByRecursion}
 use Rattle.std.proofs.lemmas.Bool.{true≢false}
 use Rattle.std.proofs.lemmas.List.{length-set, length-take-le, take_more_set, map-append, drop-set-lt, drop-drop}
-use Rattle.std.proofs.lemmas.List.Sorted.{All-permutation, sum_by-IsPermutation, length_permutation}
+use Rattle.std.proofs.lemmas.List.Sorted.{All-permutation, sum_by-IsPermutation}
 use Rattle.std.proofs.lemmas.List.Elements.{recursion_from_All, All-tail}
 use Rattle.std.proofs.lemmas.List.Sums.{sum_by-cons, sum_by-append}
 use Rattle.grade.specs.Kind.{Kind, Laws}
 use Rattle.treap.specs.Spots.{Spot, Outranks}
-use Rattle.treap.specs.Trees.{Square, Tree, none, box, count, Ordered, In, Meaning, Lawful}
-use Rattle.treap.specs.Draws.{Window, Sees, Touches, Part, Draws}
+use Rattle.treap.specs.Trees.{Square, Tree, count, Ordered, In, Meaning, Lawful}
+use Rattle.treap.specs.Draws.{Window, Touches, Part, Draws}
 use Rattle.treap.specs.Searches.{Node, tree}
 use Rattle.treap.proofs.Walks.{Walk, Kids, Search, no_part, touches_part, search_starts, search_lists, search_passes, search_ends}
 use Rattle.treap.proofs.Runs.{idle, brood, brood_kids}

@@ -7,7 +7,7 @@
 --   node code t e     the box that an entry stands for in the tree t; likewise noded of an entry that may be absent, nodes of a list
 --   Looked w r u o    o is the box u in the square r, if there is one and it touches the window
 --   weight l          how many boxes there are in and below those of the list
-use Rattle.std.specs.Prelude.{◌≡◌, ℕ, zero, suc, ◌+◌, ◌^◌, ◌<◌, ◌≤◌, Bool, ◌&&◌, ◌⊎◌, List, map, Some, None, sum_by, Option, nat_le, nat_lt}
+use Rattle.std.specs.Prelude.{◌≡◌, ℕ, zero, suc, ◌+◌, ◌^◌, ◌≤◌, Bool, ◌&&◌, ◌⊎◌, List, map, Some, None, sum_by, Option, nat_le, nat_lt}
 use Rattle.treap.specs.Spots.{Spot}
 use Rattle.treap.specs.Trees.{Quadrant, tl, tr, bl, br, Square, Tree, none, sub, find, count}
 use Rattle.treap.specs.Draws.{Window, Touches}

@@ -1,5 +1,5 @@
 -- What an accepted and a refused call come to, and a plan that is opened.
-use Rattle.std.proofs.Common.{◌≡◌, ℕ, Bool, true, false, cond, not, ◌||◌, eqb, ltb, List, length, Some, None, sym, refl, ap, ◌∙◌, subst, arith, ltb-false, le-ltb}
+use Rattle.std.proofs.Common.{◌≡◌, ℕ, Bool, true, false, cond, ◌||◌, eqb, ltb, List, length, Some, None, sym, refl, ap, ◌∙◌, subst, arith, ltb-false, le-ltb}
 use Rattle.grade.specs.Kind.{Kind}
 use Rattle.treap.specs.Spots.{Spot}
 use Rattle.treap.specs.Sums.{one_if, grade_in}

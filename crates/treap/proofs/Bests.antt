@@ -1,10 +1,10 @@
 -- One list has the n best marks.
-use Rattle.std.proofs.Common.{◌≡◌, ℕ, zero, suc, pred, ◌+◌, ◌<◌, ◌≤◌, ◌⊎◌, List, [], ◌∷◌, ◌++◌, length, sym, refl, ap, ◌∙◌, subst, inl, inr, arith}
-use Rattle.treap.specs.Trees.{In, Apart}
+use Rattle.std.proofs.Common.{◌≡◌, ℕ, pred, ◌<◌, ◌≤◌, ◌⊎◌, List, [], ◌∷◌, length, sym, refl, subst, inl, inr, arith}
+use Rattle.treap.specs.Trees.{In}
 use Rattle.grade.specs.Kind.{Kind, Laws}
-use Rattle.treap.specs.Spots.{Spot, Fair, Outranks}
+use Rattle.treap.specs.Spots.{Spot, Outranks}
 use Rattle.treap.specs.Draws.{Falls, LastOver, Best}
-use Rattle.treap.proofs.Ranks.{irrefl, irrefl_eq, trans, asym, tri, spot_discrete}
+use Rattle.treap.proofs.Ranks.{irrefl_eq, trans, asym, spot_discrete}
 use Rattle.treap.proofs.Lists.{in?}
 
 -- each mark outranks all that come after it

@@ -1,12 +1,11 @@
 -- Boxes by their numbers.
-use Rattle.std.proofs.Common.{◌≡◌, ℕ, zero, suc, ◌<◌, ◌≤◌, Bool, true, false, cond, eqb, ◌⊎◌, List, [], ◌∷◌, ◌++◌, Some, None, sym, refl, ap, ◌∙◌, subst, subst₂, inl, inr, arith}
-use native.Mathlib.Decide.{ℕ_discrete}
+use Rattle.std.proofs.Common.{◌≡◌, ℕ, zero, suc, Bool, true, false, cond, eqb, ◌⊎◌, ◌++◌, Some, None, sym, refl, ap, ◌∙◌, subst, inl, inr, arith}
 use Rattle.std.proofs.lemmas.Bool.{eqb-true, eq-eqb, ne_eqb, false≢true}
 use Rattle.grade.specs.Kind.{Kind}
 use Rattle.treap.specs.Spots.{Spot}
 use Rattle.treap.specs.Trees.{Quadrant, tl, tr, bl, br, Square, quadrant, Tree, none, box, pick, number, or, sub, find, numbers, Shows, Ordered, In, Apart}
 use Rattle.treap.specs.Draws.{Part, whole, deeper}
-use Rattle.treap.proofs.Lists.{in?, in_first, in_last, in_append, apart_parts, apart_not_both}
+use Rattle.treap.proofs.Lists.{in_first, in_last, in_append, apart_parts, apart_not_both}
 use Rattle.treap.proofs.Shown.{by_quadrant}
 use Rattle.treap.proofs.Needed.{part_lawful}
 use Rattle.treap.proofs.Counted.{part_of_part}

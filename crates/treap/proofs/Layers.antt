@@ -1,12 +1,12 @@
 -- A floor over an ordered tree is ordered, and so is an ordered tree moved; and what they show.
-use Rattle.std.proofs.Common.{◌≡◌, ℕ, pred, ◌+◌, ◌^◌, ◌<◌, ◌≤◌, Bool, true, false, ◌⊎◌, List, [], ◌∷◌, ◌++◌, sym, refl, ap, ◌∙◌, subst, inl, inr, arith}
+use Rattle.std.proofs.Common.{◌≡◌, ℕ, pred, ◌+◌, ◌^◌, Bool, true, false, ◌⊎◌, ◌∷◌, ◌++◌, sym, refl, ap, ◌∙◌, subst, inl, inr, arith}
 use Rattle.std.proofs.lemmas.Bool.{false≢true}
 use Rattle.grade.specs.Kind.{Kind, Laws}
-use Rattle.treap.specs.Spots.{Spot, Fair, Before, Outranks}
-use Rattle.treap.specs.Trees.{Quadrant, tl, tr, bl, br, Square, Within, quadrant, Tree, none, box, pick, Shows, Holds, Hangs, Ordered, In, Apart, numbers}
+use Rattle.treap.specs.Spots.{Spot, Outranks}
+use Rattle.treap.specs.Trees.{Quadrant, tl, tr, bl, br, Square, quadrant, Tree, none, box, pick, Shows, Hangs, Ordered, In, Apart, numbers}
 use Rattle.treap.specs.Layers.{kept, floor, FloorShows, moved_spot, moved_square_lem, moved, ShiftShows}
-use Rattle.treap.proofs.Shown.{shown_holds, root_over, lawful_quadrant, hangs, split, below}
-use Rattle.treap.proofs.Lists.{in_first, in_last, in_append, in_both, apart_under, apart_parts}
+use Rattle.treap.proofs.Shown.{root_over, split}
+use Rattle.treap.proofs.Lists.{in_both, apart_under, apart_parts}
 
 either_map : {A B C D : Type 0} → (A → C) → (B → D) → A ⊎ B → C ⊎ D
 either_map f g (inl x) = inl (f x)

@@ -1,5 +1,5 @@
 -- Elements of lists, and lists with no element twice.
-use Rattle.std.proofs.Common.{◌≡◌, ℕ, zero, suc, ◌+◌, ◌<◌, ◌≤◌, ◌⊎◌, List, [], ◌∷◌, ◌++◌, length, sym, refl, ap, ◌∙◌, subst, inl, inr, arith}
+use Rattle.std.proofs.Common.{◌≡◌, suc, ◌≤◌, ◌⊎◌, List, [], ◌∷◌, ◌++◌, length, sym, refl, ap, ◌∙◌, subst, inl, inr, arith}
 use Rattle.treap.specs.Trees.{In, Apart}
 
 pub in? : {A : Type 0} → ((x y : A) → Dec (x ≡ y)) → (l : List A) (x : A) → In l x ⊎ (In l x → ⊥)

@@ -1,16 +1,15 @@
 -- A floor over a lawful meaning is lawful, and so is a lawful meaning moved; and what they answer.
-use Rattle.std.proofs.Common.{◌≡◌, ℕ, zero, suc, ◌+◌, ◌^◌, ◌<◌, ◌≤◌, Bool, true, false, cond, ◌||◌, eqb, ltb, ◌⊎◌, List, [], ◌∷◌, ◌++◌, Some, None, sym, refl, ap, ◌∙◌, subst, inl, inr, arith, ltb-false}
+use Rattle.std.proofs.Common.{◌≡◌, ℕ, zero, suc, ◌+◌, ◌^◌, ◌≤◌, Bool, true, false, cond, ◌||◌, eqb, ltb, ◌⊎◌, List, [], ◌∷◌, ◌++◌, None, sym, refl, ap, ◌∙◌, subst, inl, inr, arith, ltb-false}
 use native.Mathlib.Decide.{ℕ_discrete}
 use Rattle.std.proofs.lemmas.Bool.{false≢true}
 use Rattle.grade.specs.Kind.{Kind, Laws}
 use Rattle.treap.specs.Refusals.{first}
-use Rattle.treap.specs.Spots.{Spot, Outranks}
-use Rattle.treap.specs.Trees.{Quadrant, tl, tr, bl, br, Square, quadrant, Tree, none, box, pick, number, or, sub, find, count, numbers, Shows, Ordered, In, Apart, Lone, Meaning, Lawful}
-use Rattle.treap.specs.Layers.{kept, floor, moved_spot, moved_square_lem, moved, floored, shifted, shift_refusal}
-use Rattle.treap.proofs.Lists.{in?, in_first, in_last, in_append, apart_parts, apart_not_both}
-use Rattle.treap.proofs.Ranks.{spot_eq}
-use Rattle.treap.proofs.Shown.{split, shown_holds, root_over}
-use Rattle.treap.proofs.Find.{find_miss, find_shown, or_right, ordered_find}
+use Rattle.treap.specs.Spots.{Spot}
+use Rattle.treap.specs.Trees.{Quadrant, tl, tr, bl, br, Square, quadrant, Tree, none, box, pick, number, or, sub, find, count, numbers, Shows, Ordered, In, Apart, Meaning, Lawful}
+use Rattle.treap.specs.Layers.{kept, floor, moved_spot, moved, floored, shifted, shift_refusal}
+use Rattle.treap.proofs.Lists.{in?, in_first, in_last, apart_parts, apart_not_both}
+use Rattle.treap.proofs.Shown.{split, root_over}
+use Rattle.treap.proofs.Find.{find_miss, find_shown, or_right}
 use Rattle.treap.proofs.Layers.{level_from_outranks, floor_shows_lem, shift_shows_lem}
 
 module _ (k : Kind) (L : Laws k) (g : ℕ) where

@@ -1,11 +1,11 @@
 -- Which boxes a draw has to open: the wanted ones are enough, and each set that is enough has them all.
-use Rattle.std.proofs.Common.{◌≡◌, ℕ, zero, suc, pred, ◌+◌, ◌<◌, ◌≤◌, ◌⊎◌, List, [], ◌∷◌, ◌++◌, length, sym, refl, ap, ◌∙◌, subst, inl, inr, arith}
+use Rattle.std.proofs.Common.{◌≡◌, ℕ, ◌<◌, ◌≤◌, ◌⊎◌, List, [], ◌∷◌, length, sym, subst, inl, inr, arith}
 use native.Mathlib.Decide.{ℕ_discrete, dec_lt}
 use Rattle.grade.specs.Kind.{Kind, Laws}
-use Rattle.treap.specs.Spots.{Spot, Fair, Outranks}
-use Rattle.treap.specs.Trees.{Quadrant, tl, tr, bl, br, Square, Within, quadrant, Tree, none, box, pick, Shows, Holds, Hangs, Ordered, In}
-use Rattle.treap.specs.Draws.{Window, Sees, Touches, Falls, LastOver, Part, whole, deeper, Settled, Justifies}
-use Rattle.treap.proofs.Ranks.{irrefl, irrefl_eq, trans, asym, tri, spot_discrete}
+use Rattle.treap.specs.Spots.{Spot, Outranks}
+use Rattle.treap.specs.Trees.{Quadrant, Square, quadrant, Tree, none, box, pick, Hangs, Ordered, In}
+use Rattle.treap.specs.Draws.{Window, Touches, LastOver, Part, whole, deeper, Settled, Justifies}
+use Rattle.treap.proofs.Ranks.{irrefl_eq, trans, asym, tri}
 use Rattle.treap.proofs.Shown.{within_quadrant, hangs, lawful_quadrant}
 use Rattle.treap.proofs.Lists.{in?}
 

@@ -1,10 +1,10 @@
 -- Two meanings with the same marks have the same marks through every pile, so draws of them agree.
-use Rattle.std.proofs.Common.{◌≡◌, ℕ, ◌<◌, List, [], ◌∷◌, sym, ap, subst}
+use Rattle.std.proofs.Common.{◌≡◌, ℕ, List, [], ◌∷◌, sym, ap, subst}
 use Rattle.grade.specs.Kind.{Kind, Laws}
 use Rattle.treap.specs.Spots.{Spot}
 use Rattle.treap.specs.Trees.{Square, numbers, Shows, Ordered, Apart, Meaning}
-use Rattle.treap.specs.Draws.{Window, Draws}
-use Rattle.treap.specs.Layers.{moved_square_lem, moved_spot, moved}
+use Rattle.treap.specs.Draws.{Draws}
+use Rattle.treap.specs.Layers.{moved_square_lem, moved}
 use Rattle.treap.specs.Piles.{Layer, floor_at, shift_by, lay, piled, SameDraw}
 use Rattle.treap.proofs.Counted.{one_draw_lem}
 use Rattle.treap.proofs.Layers.{floor_shows_lem, shift_shows_lem}

@@ -1,17 +1,16 @@
 -- Each draw has an answer: the search, run.
-use Rattle.std.proofs.Common.{◌≡◌, ℕ, zero, suc, ◌+◌, ◌<◌, ◌≤◌, ◌⊎◌, List, [], ◌∷◌, ◌++◌, length, sym, refl, ap, ◌∙◌, subst, inl, inr, arith}
-use native.Mathlib.Decide.{dec_lt, dec_le, ℕ_discrete}
+use Rattle.std.proofs.Common.{◌≡◌, ℕ, zero, suc, ◌+◌, ◌<◌, ◌≤◌, ◌⊎◌, List, [], ◌∷◌, ◌++◌, length, sym, refl, ap, subst, inl, inr, arith}
+use native.Mathlib.Decide.{dec_lt, dec_le}
 use Rattle.grade.specs.Kind.{Kind, Laws}
-use Rattle.treap.specs.Spots.{Spot, Fair, Outranks}
-use Rattle.treap.specs.Trees.{Quadrant, tl, tr, bl, br, Square, Within, quadrant, Tree, none, box, pick, Shows, Holds, Hangs, Ordered, count, In, Apart, Lone, numbers}
-use Rattle.treap.specs.Draws.{Window, Sees, Touches, Draws, Part, whole, SomeDraw}
+use Rattle.treap.specs.Spots.{Spot, Outranks}
+use Rattle.treap.specs.Trees.{Quadrant, tl, tr, bl, br, Square, Within, quadrant, Tree, none, box, Ordered, count, In, Apart, Lone, numbers}
+use Rattle.treap.specs.Draws.{Window, Sees, Touches, Draws, Part, SomeDraw}
 use Rattle.treap.specs.Searches.{Node, tree, child, Share, Spread}
 use Rattle.treap.proofs.Ranks.{irrefl_eq, trans, asym, tri}
 use Rattle.treap.proofs.Shown.{one_quadrant}
 use Rattle.treap.proofs.Lists.{in_first, in_last, in_append}
-use Rattle.treap.proofs.Needed.{part_lawful}
 use Rattle.treap.proofs.Counted.{touches?}
-use Rattle.treap.proofs.Walks.{Walk, Lists, Kids, Search, Boxed, no_part, node_eq, touches_part, spread_joined, search_starts, search_lists, search_passes, search_ends}
+use Rattle.treap.proofs.Walks.{Walk, Kids, Search, no_part, node_eq, touches_part, spread_joined, search_starts, search_lists, search_passes, search_ends}
 
 -- the order in which the boxes wait does not matter
 pub walk_same : (k : Kind) (s : Square) (t : Tree) (w : Window) (done wait next : List Node) → ((e : Node) → In wait e → In next e) → ((e : Node) → In next e → In wait e) → Spread next → Walk k s t w done wait → Walk k s t w done next

@@ -1,16 +1,15 @@
 -- The search's steps keep its invariant, and its end is the draw's answer.
-use Rattle.std.proofs.Common.{◌≡◌, ℕ, zero, suc, pred, ◌+◌, ◌^◌, ◌<◌, ◌≤◌, ◌⊎◌, List, [], ◌∷◌, ◌++◌, map, length, sym, refl, ap, ◌∙◌, subst, subst₂, inl, inr, arith, length-append}
-use native.Mathlib.Decide.{ℕ_discrete, dec_lt}
-use lib.ListN.{length-map}
+use Rattle.std.proofs.Common.{◌≡◌, ℕ, suc, ◌<◌, ◌≤◌, ◌⊎◌, List, [], ◌∷◌, ◌++◌, map, length, sym, refl, ap, ◌∙◌, subst, subst₂, inl, inr, arith, length-append}
+use native.Mathlib.Decide.{dec_lt}
 use Rattle.grade.specs.Kind.{Kind, Laws}
-use Rattle.treap.specs.Spots.{Spot, Fair, Outranks}
+use Rattle.treap.specs.Spots.{Spot, Outranks}
 use Rattle.treap.specs.Trees.{Quadrant, tl, tr, bl, br, Square, Within, quadrant, Tree, none, box, pick, Shows, Holds, Hangs, Ordered, In, Apart, Lone, numbers}
-use Rattle.treap.specs.Draws.{Window, Sees, Touches, Seen, Falls, LastOver, Best, Part, whole, deeper, Settled, Justifies, cell, Draws}
+use Rattle.treap.specs.Draws.{Window, Sees, Touches, Seen, Falls, LastOver, Part, whole, deeper, Justifies, cell, Draws}
 use Rattle.treap.specs.Searches.{Node, tree, child, Share, Spread}
-use Rattle.treap.proofs.Ranks.{irrefl, irrefl_eq, trans, asym, tri}
-use Rattle.treap.proofs.Shown.{below, split, hangs, lawful_quadrant, within_quadrant, shown_holds, root_over}
+use Rattle.treap.proofs.Ranks.{irrefl_eq, trans, tri}
+use Rattle.treap.proofs.Shown.{below, split, hangs, lawful_quadrant, within_quadrant, root_over}
 use Rattle.treap.proofs.Lists.{in_first, in_last, in_append, apart_shorter}
-use Rattle.treap.proofs.Bests.{Chain, chain_from_falls, last_over_all}
+use Rattle.treap.proofs.Bests.{Chain, chain_from_falls}
 use Rattle.treap.proofs.Needed.{Reaches, Wanted, Numbered, not_both, part_lawful, touches_up, wanted_is_needed, wanted_is_enough}
 use Rattle.treap.proofs.Counted.{part_of_part}
 

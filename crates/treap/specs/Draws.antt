@@ -13,7 +13,7 @@
 --                          last listed outranks; and there is none if fewer than n are listed
 --   Draws k s t w n l o    the list and the count are the answer to a draw of n marks of the window
 --   draw_refusal           the number of the refusal of a draw, or none
-use Rattle.std.specs.Prelude.{◌≡◌, ℕ, ◌<◌, ◌≤◌, Bool, ◌||◌, ◌⊎◌, List, [], ◌∷◌, map, length, Option, ◌==◌, nat_lt}
+use Rattle.std.specs.Prelude.{◌≡◌, ℕ, ◌<◌, ◌≤◌, Bool, ◌||◌, List, [], ◌∷◌, map, length, Option, ◌==◌, nat_lt}
 use Rattle.grade.specs.Kind.{Kind, Laws}
 use Rattle.treap.specs.Refusals.{first}
 use Rattle.treap.specs.Spots.{Spot, Outranks}

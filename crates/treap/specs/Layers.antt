@@ -9,7 +9,7 @@ use Rattle.std.specs.Prelude.{◌≡◌, ℕ, ◌+◌, ◌^◌, Bool, true, fals
 use Rattle.grade.specs.Kind.{Kind, Laws}
 use Rattle.treap.specs.Refusals.{first}
 use Rattle.treap.specs.Spots.{Spot}
-use Rattle.treap.specs.Trees.{Square, Tree, none, box, Shows, Ordered, In, Apart, numbers, Meaning}
+use Rattle.treap.specs.Trees.{Square, Tree, none, box, Shows, Ordered, Apart, numbers, Meaning}
 
 -- the tree, or no box
 abbrev pub kept : Bool → Tree → Tree

@@ -10,7 +10,7 @@
 --   answers, after    the same of a run of calls, one after another
 --   entries l         the marks of the ledger, row by row
 use Rattle.std.specs.Prelude.{ℕ, zero, suc, ◌^◌, Bool, cond, not, ◌&&◌, ◌||◌, List, [], ◌∷◌, ◌++◌, length, is_some, Some, None, Option, ◌==◌, nat_le, nat_lt}
-use Rattle.treap.specs.Refusals.{Check, first}
+use Rattle.treap.specs.Refusals.{first}
 use Rattle.treap.specs.Spots.{Spot}
 
 pub record Ledger : Type 0 where

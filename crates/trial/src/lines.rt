@@ -2,7 +2,10 @@
 ghost use Rattle.grade.specs.Kinds.{points};
 ghost use Rattle.plan.specs.Plans.{Sound};
 
+use crate::answers::mark;
+use crate::draws::window;
 use book::{Reply, first_line};
+use draw::Entry;
 use grade::points::Points;
 use plan::Place;
 use session::Session;
@@ -70,6 +73,29 @@ fn a_draw_is_read_and_refused(rt: HostRuntime) {
     told(&rt, &mut session, "N 1", Reply::Done);
     told(&rt, &mut session, "D 0 0 1 1 1", Reply::No(24));
     told(&rt, &mut session, "D 0 0 1 1 257", Reply::No(24));
+}
+
+#[test]
+fn a_refused_draw_tells_the_first_reason(rt: HostRuntime) {
+    let mut places = [Place::vacant(Points { value: 0 }); 9];
+    let mut session = Session::new(&mut places);
+    told(&rt, &mut session, "N 2", Reply::Done);
+    let none = Points { value: 0 };
+    let mut queue = [Entry::vacant(none); 8];
+    let mut list = [mark(0, 0, 0); 4];
+    let turned = window(1, 0, 0, 1);
+    assert_eq!(rt;
+        session.draw(turned, 5, &mut queue, &mut list),
+        Reply::No(24)
+    );
+    assert_eq!(rt;
+        session.draw(turned, 0, &mut queue, &mut list),
+        Reply::No(19)
+    );
+    assert_eq!(rt;
+        session.draw(window(0, 0, 1, 1), 0, &mut queue, &mut list),
+        Reply::No(20)
+    );
 }
 
 #[test]

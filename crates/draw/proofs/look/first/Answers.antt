@@ -1,4 +1,4 @@
-use Rattle.std.proofs.Common.{◌≡◌, sym, ap, subst₂, arith}
+use Rattle.std.proofs.Common.{sym, ap, subst₂, arith}
 use Rattle.treap.specs.Trees.{Square, Tree}
 use Rattle.treap.proofs.Find.{find_root}
 use Rattle.boxtree.specs.Squares.{window_of}

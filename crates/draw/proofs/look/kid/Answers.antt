@@ -1,4 +1,4 @@
-use Rattle.std.proofs.Common.{◌≡◌, Ok, sym, ap, ◌∙◌, subst₂, arith}
+use Rattle.std.proofs.Common.{Ok, sym, ap, ◌∙◌, subst₂, arith}
 use Rattle.treap.specs.Trees.{Square, Tree}
 use Rattle.boxtree.specs.Squares.{square_of, window_of}
 use Rattle.boxtree.proofs.Replies.{level_small}

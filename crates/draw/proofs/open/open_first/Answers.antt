@@ -1,10 +1,10 @@
-use Rattle.std.proofs.Common.{◌≡◌, ◌+◌, ◌<◌, ◌≤◌, List, length, sym, refl, ap, ◌∙◌, subst, arith}
+use Rattle.std.proofs.Common.{List, refl, ◌∙◌, subst, arith}
 use lib.ListN.{length-map}
 use Rattle.std.specs.List.Sorted.{IsPermutation}
-use Rattle.treap.specs.Searches.{Node, tree as tree_of}
+use Rattle.treap.specs.Searches.{Node}
 use Rattle.queue.specs.Held.{held, room}
 use Rattle.boxtree.specs.Squares.{window_of}
-use Rattle.draw.specs.Nodes.{node, nodes, noded, weight}
+use Rattle.draw.specs.Nodes.{node, nodes, noded}
 use Rattle.draw.specs.Opened.{with}
 use Rattle.draw.proofs.Opening.{opens, another, room_left, some_noded, shuffled_map, nodes_with}
 use Rattle.draw.proofs.open.open_first.Goals as goal

@@ -1,8 +1,8 @@
-use Rattle.std.proofs.Common.{◌≡◌, ◌<◌, ◌≤◌, length, sym, refl, ◌∙◌, arith, eqb-true}
+use Rattle.std.proofs.Common.{◌<◌, ◌≤◌, length, sym, refl, ◌∙◌, arith, eqb-true}
 use borrow.Author.Tests.{eqb-false}
 use Rattle.boxtree.specs.Squares.{window_of}
 use Rattle.queue.specs.Held.{held, room}
-use Rattle.draw.proofs.Running.{Running, begins, top_part, top_fits, counts_on, list_size, list_filled, list_rest, fills, lighter, runs_on, empty}
+use Rattle.draw.proofs.Running.{begins, top_part, top_fits, counts_on, list_size, list_filled, list_rest, fills, lighter, runs_on, empty}
 use Rattle.draw.proofs.Opening.{opened}
 use Rattle.draw.proofs.search.search.Goals as goal
 

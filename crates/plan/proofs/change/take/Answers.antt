@@ -1,4 +1,4 @@
-use Rattle.std.proofs.Common.{ℕ, ◌-◌, Option, sym, refl, ap, subst, arith}
+use Rattle.std.proofs.Common.{ℕ, Option, sym, refl, ap, subst, arith}
 use Rattle.boxtree.specs.Marks.{spot_of}
 use Rattle.treap.specs.Trees.{Shows}
 use Rattle.treap.specs.Entries.{plan_square}
