@@ -9,4 +9,4 @@ mod reply;
 pub use command::{Command, Unusable};
 pub use grammar::parse;
 pub use lines::first_line;
-pub use reply::{MarkLine, Reply};
+pub use reply::{DrawnLine, MarkLine, Reply};

@@ -1,10 +1,10 @@
 //! The answer to a line, and how it is written.
-ghost use Rattle.book.specs.Replies.{reply_text, mark_text};
+ghost use Rattle.book.specs.Replies.{reply_text, drawn_text, mark_text};
 ghost use Rattle.std.specs.Prelude.{Some};
 
 use std::fmt;
 
-/// The answer to a line, one line itself; the marks of a draw follow it.
+/// The answer to a line, one line itself.
 #[derive(Clone, Copy, PartialEq, Eq, Debug)]
 pub enum Reply {
     /// The command was carried out: `ok`.
@@ -13,8 +13,6 @@ pub enum Reply {
     Grade(u16),
     /// There is no mark on the cell: `vacant`.
     Vacant,
-    /// So many marks are drawn, for which so many boxes were opened: `drawn 1 opened 3`. A line for each mark follows.
-    Drawn { listed: usize, opened: u32 },
     /// The command was refused, for the reason of this number: `no 24`.
     No(u8),
 }
@@ -27,9 +25,24 @@ impl fmt::Display for Reply {
             Reply::Done => write!(f, "ok"),
             Reply::Grade(grade) => write!(f, "grade {grade}"),
             Reply::Vacant => write!(f, "vacant"),
-            Reply::Drawn { listed, opened } => write!(f, "drawn {listed} opened {opened}"),
             Reply::No(number) => write!(f, "no {number}"),
         }
+    }
+}
+
+/// The first line of a draw: so many marks are drawn, for which so many boxes were opened: `drawn 1 opened 3`. A line for each
+/// mark follows.
+#[derive(Clone, Copy, PartialEq, Eq, Debug)]
+pub struct DrawnLine {
+    pub listed: usize,
+    pub opened: u32,
+}
+
+impl fmt::Display for DrawnLine {
+    ghost output = { λ d. Some (drawn_text d) };
+
+    fn fmt<W: fmt::Write>(&self, f: &mut fmt::Formatter<W>) -> fmt::Result {
+        write!(f, "drawn {} opened {}", self.listed, self.opened)
     }
 }
 

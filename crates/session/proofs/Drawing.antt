@@ -12,6 +12,7 @@ use Rattle.draw.specs.declared.entry.Entry.{Entry}
 use Rattle.draw.specs.declared.refusal.DrawRefusal.{DrawRefusal}
 use Rattle.draw.specs.Answers.{Answered}
 use Rattle.plan.specs.Plans.{shown}
+use Rattle.book.specs.declared.reply.DrawnLine.{DrawnLine}
 use Rattle.book.specs.declared.reply.Reply.{Reply}
 use Rattle.book.specs.declared.reply.Reply.TheVariants.{No}
 use Rattle.session.specs.declared.session.Session.{Session}
@@ -29,7 +30,7 @@ module _ (queue queue' : List (Entry Points)) (list ys : List (Mark Points)) (s 
   as_long (Ok d) a = a.size ∙ length-take-le k list fits
   as_long (Err e) a = ap length a.same_list ∙ length-take-le k list fits
 
-  module _ (result : Result Drawn DrawRefusal) (r : Reply) (told : r ≡ draw_reply result) (a : Answered points (λ p. p.value) (shown (λ p. p.value) s.plan) w queue queue' (take k list) ys result) where
+  module _ (result : Result Drawn DrawRefusal) (r : Result DrawnLine Reply) (told : r ≡ draw_reply result) (a : Answered points (λ p. p.value) (shown (λ p. p.value) s.plan) w queue queue' (take k list) ys result) where
     first_places : take k (ys ++ drop k list) ≡ ys
     first_places = take_at ys (drop k list) k (as_long result a)
 
@@ -54,7 +55,7 @@ module _ (queue queue' : List (Entry Points)) (list ys : List (Mark Points)) (s 
 pub drew_in : (queue queue' : List (Entry Points)) (list ys : List (Mark Points)) (s : Session) (w : Window) (k m : ℕ)
     → m ≡ k
     → m ≤ length list
-    → (result : Result Drawn DrawRefusal) (r : Reply)
+    → (result : Result Drawn DrawRefusal) (r : Result DrawnLine Reply)
     → r ≡ draw_reply result
     → Answered points (λ p. p.value) (shown (λ p. p.value) s.plan) w queue queue' (take m list) ys result
     → s.started ≡ true

@@ -1,6 +1,6 @@
 -- What a session answers to a draw.
 --
---   draw_reply r      the answer of a draw, as it is told
+--   draw_reply r      the answer of a draw, as it is told: its first line, or a refusal
 --   Drew              a draw of k marks of the window w is answered by r: it is refused before the first plan is opened and where the
 --                     list has fewer than k places; else the first k places of the list are drawn in
 use Rattle.std.specs.Prelude.{◌≡◌, ℕ, ◌&&◌, List, length, take, drop, Ok, Err, MatchBool, Result, nat_le}
@@ -14,13 +14,14 @@ use Rattle.draw.specs.declared.refusal.DrawRefusal.{DrawRefusal}
 use Rattle.draw.specs.Answers.{Answered}
 use Rattle.draw.specs.Refusals.{refusal_number}
 use Rattle.plan.specs.Plans.{shown}
+use Rattle.book.specs.declared.reply.DrawnLine.{DrawnLine}
 use Rattle.book.specs.declared.reply.Reply.{Reply}
-use Rattle.book.specs.declared.reply.Reply.TheVariants as reply
+use Rattle.book.specs.declared.reply.Reply.TheVariants.{No}
 use Rattle.session.specs.declared.session.Session.{Session}
 
-abbrev pub draw_reply : Result Drawn DrawRefusal → Reply
-draw_reply (Ok d) = reply.Drawn d.listed d.opened
-draw_reply (Err e) = reply.No (refusal_number e)
+abbrev pub draw_reply : Result Drawn DrawRefusal → Result DrawnLine Reply
+draw_reply (Ok d) = Ok (record { listed = d.listed; opened = d.opened })
+draw_reply (Err e) = Err (No (refusal_number e))
 
 -- with what the queue and the list hold before and after
 module _ (queue queue' : List (Entry Points)) (list list' : List (Mark Points)) where
@@ -30,16 +31,16 @@ module _ (queue queue' : List (Entry Points)) (list list' : List (Mark Points)) 
     pub list_same : list' ≡ list
 
   -- so it is answered, and nothing is written
-  abbrev pub Said : Reply → Reply → Type 0
-  Said answer r = (r ≡ answer) × Untouched
+  abbrev pub Said : Reply → Result DrawnLine Reply → Type 0
+  Said answer r = (r ≡ Err answer) × Untouched
 
   -- the best marks of the window stand in the first k places of the list, as far as there are so many, and the rest is as it was
-  pub record DrawnIn (s : Session) (w : Window) (k : ℕ) (r : Reply) : Type 0 where
+  pub record DrawnIn (s : Session) (w : Window) (k : ℕ) (r : Result DrawnLine Reply) : Type 0 where
     pub result : Result Drawn DrawRefusal
     pub told : r ≡ draw_reply result
     pub answered : Answered points (λ p. p.value) (shown (λ p. p.value) s.plan) w queue queue' (take k list) (take k list') result
     pub size : length list' ≡ length list
     pub beyond : drop k list' ≡ drop k list
 
-  abbrev pub Drew : Session → Window → ℕ → Reply → Type 0
-  Drew s w k r = MatchBool (s.started && nat_le k (length list)) (DrawnIn s w k r) (Said (reply.No 24) r)
+  abbrev pub Drew : Session → Window → ℕ → Result DrawnLine Reply → Type 0
+  Drew s w k r = MatchBool (s.started && nat_le k (length list)) (DrawnIn s w k r) (Said (No 24) r)

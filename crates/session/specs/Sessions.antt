@@ -14,7 +14,7 @@ use Rattle.book.specs.Grammar.{Says}
 use Rattle.book.specs.declared.command.Command.{Command}
 use Rattle.book.specs.declared.command.Command.TheVariants.{New, Enter, Regrade, Strike, Look, Draw}
 use Rattle.book.specs.declared.reply.Reply.{Reply}
-use Rattle.book.specs.declared.reply.Reply.TheVariants.{Done, Grade, Vacant, Drawn, No}
+use Rattle.book.specs.declared.reply.Reply.TheVariants.{Done, Grade, Vacant, No}
 use Rattle.session.specs.declared.session.Session.{Session}
 
 pub record Desk : Type 0 where
@@ -81,7 +81,6 @@ abbrev pub Unchanged : Session → Session → Reply → Type 0
 Unchanged s t Done = Unit {0}
 Unchanged s t (Grade g) = Unit {0}
 Unchanged s t Vacant = Unit {0}
-Unchanged s t (Drawn listed opened) = Unit {0}
 Unchanged s t (No n) =
     (t.started ≡ s.started)
     × (t.plan.h ≡ s.plan.h)

@@ -6,38 +6,38 @@ ghost use Rattle.plan.specs.Plans.{Sound};
 ghost use Rattle.session.specs.Replies.{Drew};
 
 use crate::session::Session;
-use book::{Reply, Unusable};
+use book::{DrawnLine, Reply, Unusable};
 use boxtree::mark::Mark;
 use boxtree::window::Window;
 use draw::{Entry, draw};
 use grade::points::Points;
 
 impl Session<'_> {
-    /// The answer to a draw of `k` marks of the window. They are listed in the first places of the list; more marks than it
-    /// has places are refused as a line is that cannot be used.
+    /// The answer to a draw of `k` marks of the window: its first line, or a refusal. The marks are listed in the first places of
+    /// the list; more marks than it has places are refused as a line is that cannot be used.
     pub fn draw(
         &self,
         window: Window,
         k: u16,
         queue: &mut [Entry<Points>],
         list: &mut [Mark<Points>],
-    ) -> Reply
+    ) -> Result<DrawnLine, Reply>
         requires { Sound points (λ p. p.value) self.now.plan }
         ensures { Drew queue.old queue.new list.old list.new self.now (window_of window) k result }
     {
         if !self.started {
-            return Reply::No(Unusable.number());
+            return Err(Reply::No(Unusable.number()));
         }
         let asked = usize::from(k);
         if asked > list.len() {
-            return Reply::No(Unusable.number());
+            return Err(Reply::No(Unusable.number()));
         }
         match draw(&self.plan, window, queue, &mut list[0..asked]) {
-            Ok(drawn) => Reply::Drawn {
+            Ok(drawn) => Ok(DrawnLine {
                 listed: drawn.listed,
                 opened: drawn.opened,
-            },
-            Err(e) => Reply::No(e.number()),
+            }),
+            Err(e) => Err(Reply::No(e.number())),
         }
     }
 }

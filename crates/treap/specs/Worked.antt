@@ -7,7 +7,8 @@
 --   trial_ledger     the ledger of the plan after they are entered
 --   tree_of l        the box tree of the marks of a ledger of points
 --   window t l b r   the rows from t to b and the columns from l to r
---   Worked           the examples
+--   TrialDraws       the examples of draws
+--   Worked           the other examples
 use Rattle.std.specs.Prelude.{◌≡◌, ℕ, List, [], ◌∷◌, map, Some, None}
 use Rattle.grade.specs.Kinds.{points, monument, monument_code}
 use Rattle.treap.specs.Spots.{Spot}
@@ -93,5 +94,4 @@ pub record TrialMonuments : Type 0 where
 
 pub record Worked : Type 0 where
   pub plan : TrialPlan
-  pub draws : TrialDraws
   pub monuments : TrialMonuments

@@ -7,7 +7,7 @@ ghost use Rattle.treap.specs.Entries.{LedgerTree, SameMarksSameTree};
 ghost use Rattle.treap.specs.Draws.{SomeDraw, OneDraw};
 ghost use Rattle.treap.specs.Layers.{FloorShows, ShiftShows};
 ghost use Rattle.treap.specs.Piles.{OneFloorOneShift, SameDraw};
-ghost use Rattle.treap.specs.Worked.{Worked};
+ghost use Rattle.treap.specs.Worked.{TrialDraws, Worked};
 
 /// One square and one set of marks have one box tree, up to the numbers of the boxes.
 pub fn one_tree() -> u8
@@ -82,6 +82,13 @@ pub fn same_draw() -> u8
 /// What the definitions give for a small plan and for some monuments.
 pub fn worked_examples() -> u8
     ensures { Worked }
+{
+    0
+}
+
+/// What the definitions give for some draws from the small plan.
+pub fn worked_draws() -> u8
+    ensures { TrialDraws }
 {
     0
 }

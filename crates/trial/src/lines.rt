@@ -86,15 +86,15 @@ fn a_refused_draw_tells_the_first_reason(rt: HostRuntime) {
     let turned = window(1, 0, 0, 1);
     assert_eq!(rt;
         session.draw(turned, 5, &mut queue, &mut list),
-        Reply::No(24)
+        Err(Reply::No(24))
     );
     assert_eq!(rt;
         session.draw(turned, 0, &mut queue, &mut list),
-        Reply::No(19)
+        Err(Reply::No(19))
     );
     assert_eq!(rt;
         session.draw(window(0, 0, 1, 1), 0, &mut queue, &mut list),
-        Reply::No(20)
+        Err(Reply::No(20))
     );
 }
 

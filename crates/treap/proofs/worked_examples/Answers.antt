@@ -1,5 +1,4 @@
 use Rattle.std.proofs.Common.{refl}
-use Rattle.treap.proofs.Worked.{trial_draws}
 use Rattle.treap.proofs.worked_examples.Goals as goal
 
 pub returns : goal.returns
@@ -18,7 +17,6 @@ returns c =
             vacant = refl;
             full = refl;
           };
-      draws = trial_draws;
       monuments =
           record { first = refl; second = refl; step = refl; to_second = refl; to_itself = refl; to_none = refl };
     }
