@@ -2,7 +2,7 @@
 #![tactic(auto)]
 
 mod answer;
-mod draw;
+mod drawing;
 mod session;
 
 pub use session::Session;
