@@ -1,7 +1,7 @@
 use Rattle.std.proofs.Common.{◌-◌, Ok, Err, refl, ap, arith}
 use Rattle.boxtree.specs.Squares.{window_of}
 use Rattle.book.specs.declared.reply.Reply.TheVariants.{No}
-use Rattle.session.proofs.Drawing.{drew_in}
+use Rattle.session.proofs.FirstPlaces.{drew_in}
 use Rattle.session.proofs.session.Session.draw.Goals as goal
 
 pub returns-in-Ok : goal.returns-in-Ok
