@@ -5,7 +5,7 @@ facts in upper camel case.
 usage: python3 tools/respell.py        at the top of a repository, once, right after the toolchain's port.py
        python3 tools/respell.py --list shows each old and new name, and changes nothing
 
-Names of src/, of goals, and of the library keep their spelling. It stops where two names would fall together.
+Names of src/, of goals, and of the library keep their spelling. On standard error it says where two names would fall together.
 """
 
 import collections

@@ -2,7 +2,7 @@
 --
 --   Accepted      the best marks of the window stand in the first places of the list, the other places are as they were, and the
 --                 count is right; the queue may hold anything
---   TurnedDown   the refusal is the first that fits, and nothing is changed
+--   TurnedDown    the refusal is the first that fits, and nothing is changed
 --   Answered      one of these, by the answer
 use Rattle.std.specs.Prelude.{◌≡◌, ℕ, ◌≤◌, List, map, length, take, drop, Some, None, Ok, Err, Result}
 use Rattle.grade.specs.Kind.{Kind}

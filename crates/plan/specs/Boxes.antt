@@ -1,7 +1,7 @@
 -- The boxes of a plan by their numbers. The number of a box is its place.
 --
 --   BoxRead code at n b r   of n boxes, r is the place that holds the box b; absent where b is not below n
---   Indexed q r              r is the quadrant with the index q; absent where q is above 3
+--   Indexed q r             r is the quadrant with the index q; absent where q is above 3
 use Rattle.std.specs.Prelude.{◌≡◌, ℕ, ◌<◌, ◌≤◌, Ok, Err, Result}
 use Rattle.treap.specs.Trees.{index}
 use Rattle.boxtree.specs.declared.refusal.Absent.{Absent}

@@ -1,7 +1,7 @@
 -- The boxes right below a box, and the best of them.
 --
 --   Choice                  a box right below: its quadrant, its place and its mark
---   ChildAt at p q o       o is the box in quadrant q of the box p, or none
+--   ChildAt at p q o        o is the box in quadrant q of the box p, or none
 --   Better k a b r          r is the one of a and b whose mark outranks the other's
 --   Best k at p r           r is the box right below p whose mark outranks those of the others, or none where there is none
 use Rattle.std.specs.Prelude.{◌≡◌, ℕ, ◌⊎◌, Some, None, Option}

@@ -5,7 +5,7 @@
 --   Touches s w            the square and the window share a cell
 --   Seen t w x             the tree shows the mark, and it lies in the window
 --   Falls k l              each mark of the list outranks the next
---   LastOver k l m        the list has a last mark, and that outranks m
+--   LastOver k l m         the list has a last mark, and that outranks m
 --   Best k P n l           the list has the n best of the marks of which P holds, the best first
 --   Part s t r u           u is t or stands somewhere below its root, in the square r if t stands in s
 --   Justifies k s t w n l S   the boxes of the set S are reason enough for the list l, where n marks are asked for: a box

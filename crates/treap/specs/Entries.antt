@@ -1,7 +1,7 @@
 -- A lawful tree without two marks in a cell and its ledger tell each other: the ledger has the marks that the tree shows, and
 -- the tree is the one worked out from the marks of the ledger. So two such trees with equal ledgers differ in box numbers only.
 --
---   plan_square h        the square of a plan of the level h, whose first cell is (0, 0)
+--   plan_square h         the square of a plan of the level h, whose first cell is (0, 0)
 --   Recorded k s t l      the ledger l has the marks of the tree t of the square s
 use Rattle.std.specs.Prelude.{◌≡◌, ℕ, length, Some}
 use Rattle.grade.specs.Kind.{Kind, Laws}

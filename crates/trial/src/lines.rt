@@ -3,8 +3,8 @@ ghost use Rattle.grade.specs.Kinds.{points};
 ghost use Rattle.plan.specs.Plans.{Sound};
 
 use crate::answers::mark;
-use crate::draws::window;
-use book::{Reply, first_line};
+use crate::draws::{numbers, window};
+use book::{MarkLine, Reply, first_line};
 use draw::Entry;
 use grade::points::Points;
 use plan::Place;
@@ -96,6 +96,36 @@ fn a_refused_draw_tells_the_first_reason(rt: HostRuntime) {
         session.draw(window(0, 0, 1, 1), 0, &mut queue, &mut list),
         Err(Reply::No(20))
     );
+}
+
+#[test]
+fn a_draw_tells_its_counts_and_its_marks(rt: HostRuntime) -> Result<(), Fail> {
+    let mut places = [Place::vacant(Points { value: 0 }); 9];
+    let mut session = Session::new(&mut places);
+    told(&rt, &mut session, "N 2", Reply::Done);
+    told(&rt, &mut session, "E 0 0 5", Reply::Done);
+    told(&rt, &mut session, "E 0 3 9", Reply::Done);
+    told(&rt, &mut session, "E 1 1 5", Reply::Done);
+    told(&rt, &mut session, "E 2 1 7", Reply::Done);
+    told(&rt, &mut session, "E 3 3 1", Reply::Done);
+    let mut queue = [Entry::vacant(Points { value: 0 }); 8];
+    let mut list = [mark(9, 9, 9); 4];
+    match session.draw(window(1, 1, 1, 2), 2, &mut queue, &mut list) {
+        Ok(drawn) => {
+            let first = format!(in rt.alloc(); "{drawn}")?;
+            assert_eq!(rt; first.as_str(), "drawn 1 opened 3");
+        }
+        Err(_) => return Err(Fail::new("refused")),
+    }
+    let drawn = MarkLine {
+        row: list[0].row,
+        col: list[0].col,
+        grade: list[0].grade.value,
+    };
+    let next = format!(in rt.alloc(); "{drawn}")?;
+    assert_eq!(rt; next.as_str(), "1 1 5");
+    assert_eq!(rt; numbers(list[1]), [9, 9, 9]);
+    Ok(())
 }
 
 #[test]
