@@ -3,7 +3,7 @@ use Rattle.std.proofs.Common.{◌≡◌, ℕ, ◌+◌, ◌^◌, ◌<◌, ◌≤�
 use Rattle.std.proofs.lemmas.List.{drop_more, drop_all}
 use Rattle.grade.specs.Kind.{Kind, Laws, codes}
 use Rattle.treap.specs.Trees.{Square, Meaning, Lawful}
-use Rattle.treap.specs.Layers.{moved_square_lem, floored, shifted, past_edge_lem, shift_refusal}
+use Rattle.treap.specs.Layers.{moved_square, floored, shifted, past_edge, shift_refusal}
 use Rattle.treap.specs.Refusals.{first}
 use Rattle.treap.specs.Sums.{either}
 use Rattle.treap.specs.Piles as piles
@@ -18,7 +18,7 @@ same_square : (k : Kind) (p : List piles.Layer) (m n : Meaning) → m.square ≡
 same_square k [] m n e = refl
 same_square k (piles.floor_at g ∷ p) m n e = same_square k p (floored k g m) (floored k g n) e
 same_square k (piles.shift_by r c ∷ p) m n e =
-    let rest = same_square k p (shifted r c m) (shifted r c n) (ap (moved_square_lem r c) e) in
+    let rest = same_square k p (shifted r c m) (shifted r c n) (ap (moved_square r c) e) in
     let here : shift_refusal r c m ≡ shift_refusal r c n = ap (λ (s : Square). shift_refusal r c record { square = s; ceiling = m.ceiling; tree = m.tree }) e in
     λ z. either (here z) (rest z)
 
@@ -63,10 +63,10 @@ module _ {G : Type 0} (k : Kind) (code : G → ℕ) (layers : List (Layer G)) (m
           λ z. first (record { number = 18; fits = ltb 65536 (sym et z + 2 ^ m.square.level) || ltb 65536 (sym el z + 2 ^ m.square.level) } ∷ []) in
           (λ z. either (here z) (rest z)) ∙ sym step
 
-      pub shift_refused : past_edge_lem (down + rows) (along + cols) m.square ≡ true → Moved i down along → Some 18 ≡ piles.pile_refusal k (layers_of code layers) m
+      pub shift_refused : past_edge (down + rows) (along + cols) m.square ≡ true → Moved i down along → Some 18 ≡ piles.pile_refusal k (layers_of code layers) m
       shift_refused t h = rw t at shift_next ∙ h
 
-      pub shift_moved : past_edge_lem (down + rows) (along + cols) m.square ≡ false → Moved i down along → Moved (i + 1) (down + rows) (along + cols)
+      pub shift_moved : past_edge (down + rows) (along + cols) m.square ≡ false → Moved i down along → Moved (i + 1) (down + rows) (along + cols)
       shift_moved t h = rw t at shift_next ∙ h
 
       pub shift_summed : (least : Option G) → Summed i least down along → Summed (i + 1) least (down + rows) (along + cols)
@@ -75,15 +75,15 @@ module _ {G : Type 0} (k : Kind) (code : G → ℕ) (layers : List (Layer G)) (m
           sym step ∙ h
 
       -- where no layer is refused, the next shift is not
-      pub shift_within : piles.pile_refusal k (layers_of code layers) m ≡ None → Moved i down along → past_edge_lem (down + rows) (along + cols) m.square ≡ false
-      shift_within o h = go (past_edge_lem (down + rows) (along + cols) m.square) refl
+      pub shift_within : piles.pile_refusal k (layers_of code layers) m ≡ None → Moved i down along → past_edge (down + rows) (along + cols) m.square ≡ false
+      shift_within o h = go (past_edge (down + rows) (along + cols) m.square) refl
         where
-          go : (v : Bool) → past_edge_lem (down + rows) (along + cols) m.square ≡ v → past_edge_lem (down + rows) (along + cols) m.square ≡ false
+          go : (v : Bool) → past_edge (down + rows) (along + cols) m.square ≡ v → past_edge (down + rows) (along + cols) m.square ≡ false
           go true t = let f : ◌≡◌ {A = Option ℕ} (Some 18) None = shift_refused t h ∙ o in let z : ◌≡◌ {A = ℕ} 0 1 = cc in absurd (omega arith)
           go false t = t
 
 -- a shift that is not past the edge fits
-pub within : (r c : ℕ) (m : Meaning) → past_edge_lem r c m.square ≡ false → (r ≤ 65535) × (c ≤ 65535)
+pub within : (r c : ℕ) (m : Meaning) → past_edge r c m.square ≡ false → (r ≤ 65535) × (c ≤ 65535)
 within r c m t =
     let o : shift_refusal r c m ≡ None = rw t refl in
     let f = shift_fits r c m o in

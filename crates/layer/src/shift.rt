@@ -1,6 +1,6 @@
 //! A box tree moved over the grid.
 ghost use Rattle.std.specs.Prelude.{◌≡◌, ◌+◌, ◌<◌, ◌≤◌, None};
-ghost use Rattle.treap.specs.Layers.{shifted, moved_spot, moved_square_lem, past_edge_lem, shift_refusal};
+ghost use Rattle.treap.specs.Layers.{shifted, moved_spot, moved_square, past_edge, shift_refusal};
 ghost use Rattle.layer.specs.Refusals.{shift_numbered};
 ghost use Rattle.boxtree.specs.Marks.{spot_of};
 ghost use Rattle.boxtree.specs.Squares.{square_of};
@@ -23,7 +23,7 @@ pub struct Shift<'a, T: BoxTree> {
 // Whether a row or a column of the square, moved `rows` rows down and `cols` columns to the right, would pass 65,535.
 pub(crate) fn past_edge(square: Square, rows: u32, cols: u32) -> bool
     requires { (square.level ≤ 16) × (rows ≤ 131071) × (cols ≤ 131071) }
-    ensures { result ≡ past_edge_lem rows cols (square_of square) }
+    ensures { result ≡ past_edge rows cols (square_of square) }
 {
     let side = 1u32 << square.level;
     square.top as u32 + rows + side > 65536 || square.left as u32 + cols + side > 65536
@@ -56,7 +56,7 @@ impl<'a, T: BoxTree> Shift<'a, T> {
 // The square `rows` rows further down and `cols` columns further to the right.
 fn moved_square(square: Square, rows: u16, cols: u16) -> Square
     requires { (square.top + rows < 65536) × (square.left + cols < 65536) }
-    ensures { square_of result ≡ moved_square_lem rows cols (square_of square) }
+    ensures { square_of result ≡ moved_square rows cols (square_of square) }
 {
     Square {
         level: square.level,

@@ -1,4 +1,3 @@
-mod Ranking
 mod Descent
 mod Cells
 mod Seeking

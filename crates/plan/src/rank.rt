@@ -12,15 +12,7 @@ use grade::Grade;
 pub(crate) fn outranks<G: Grade>(m: Mark<G>, n: Mark<G>) -> bool
     ensures { Decides result (Outranks G.Grade.kind (spot_of G.Grade.coded m) (spot_of G.Grade.coded n)) }
 {
-    if !n.grade.above(m.grade) {
-        true
-    } else if !m.grade.above(n.grade) {
-        false
-    } else if m.row == n.row {
-        m.col < n.col
-    } else {
-        m.row < n.row
-    }
+    m.outranks(n)
 }
 
 // Whether the mark stands in the cell.

@@ -4,7 +4,7 @@ use Rattle.std.proofs.lemmas.Bool.{false≢true}
 use Rattle.grade.specs.Kind.{Kind, Laws}
 use Rattle.treap.specs.Spots.{Spot, Outranks}
 use Rattle.treap.specs.Trees.{Quadrant, tl, tr, bl, br, Square, quadrant, Tree, none, box, pick, Shows, Hangs, Ordered, In, Apart, numbers}
-use Rattle.treap.specs.Layers.{kept, floor, FloorShows, moved_spot, moved_square_lem, moved, ShiftShows}
+use Rattle.treap.specs.Layers.{kept, floor, FloorShows, moved_spot, moved_square, moved, ShiftShows}
 use Rattle.treap.proofs.Shown.{root_over, split}
 use Rattle.treap.proofs.Lists.{in_both, apart_under, apart_parts}
 
@@ -128,7 +128,7 @@ module _ (k : Kind) (down right : ℕ) where
   sum_swap : (a b c : ℕ) → a + b + c ≡ a + c + b
   sum_swap a b c = omega arith
 
-  quadrant_moved : (q : Quadrant) (s : Square) → moved_square_lem down right (quadrant q s) ≡ quadrant q (moved_square_lem down right s)
+  quadrant_moved : (q : Quadrant) (s : Square) → moved_square down right (quadrant q s) ≡ quadrant q (moved_square down right s)
   quadrant_moved tl s = refl
   quadrant_moved tr s = λ i. record { level = pred s.level; top = s.top + down; left = sum_swap s.left (2 ^ pred s.level) right i }
   quadrant_moved bl s = λ i. record { level = pred s.level; top = sum_swap s.top (2 ^ pred s.level) down i; left = s.left + right }
@@ -139,14 +139,14 @@ module _ (k : Kind) (down right : ℕ) where
         left = sum_swap s.left (2 ^ pred s.level) right i;
       }
 
-  hangs_moved : (s : Square) (m : Spot) (t : Tree) → Hangs k s m t → Hangs k (moved_square_lem down right s) (moved_spot down right m) (moved down right t)
+  hangs_moved : (s : Square) (m : Spot) (t : Tree) → Hangs k s m t → Hangs k (moved_square down right s) (moved_spot down right m) (moved down right t)
   hangs_moved s m none h = tt
   hangs_moved s m (box i x a b c d) h = (h.0, outranks_moved m x h.1)
 
-  at_quadrant : (q : Quadrant) (s : Square) (t : Tree) → Ordered k (moved_square_lem down right (quadrant q s)) t → Ordered k (quadrant q (moved_square_lem down right s)) t
+  at_quadrant : (q : Quadrant) (s : Square) (t : Tree) → Ordered k (moved_square down right (quadrant q s)) t → Ordered k (quadrant q (moved_square down right s)) t
   at_quadrant q s t h = subst (λ (x : Square). Ordered k x t) (quadrant_moved q s) h
 
-  lawful_moved : (s : Square) (t : Tree) → Ordered k s t → Ordered k (moved_square_lem down right s) (moved down right t)
+  lawful_moved : (s : Square) (t : Tree) → Ordered k s t → Ordered k (moved_square down right s) (moved down right t)
   lawful_moved s none h = tt
   lawful_moved s (box i m a b c d) h = (
     record {

@@ -4,7 +4,7 @@ use Rattle.grade.specs.Kind.{Kind, Laws}
 use Rattle.treap.specs.Spots.{Spot}
 use Rattle.treap.specs.Trees.{Square, numbers, Shows, Ordered, Apart, Meaning}
 use Rattle.treap.specs.Draws.{Draws}
-use Rattle.treap.specs.Layers.{moved_square_lem, moved}
+use Rattle.treap.specs.Layers.{moved_square, moved}
 use Rattle.treap.specs.Piles.{Layer, floor_at, shift_by, lay, piled, SameDraw}
 use Rattle.treap.proofs.Counted.{one_draw_lem}
 use Rattle.treap.proofs.Layers.{floor_shows_lem, shift_shows_lem}
@@ -36,7 +36,7 @@ lay_alike k L m n (shift_by rows cols) a =
     let f = shift_shows_lem k rows cols m.square m.tree a.ordered in
     let h = shift_shows_lem k rows cols n.square n.tree a.ordered' in
     record {
-      square = ap (moved_square_lem rows cols) a.square;
+      square = ap (moved_square rows cols) a.square;
       ordered = f.0;
       ordered' = h.0;
       apart = subst (λ (l : List ℕ). Apart l) (sym f.3) a.apart;

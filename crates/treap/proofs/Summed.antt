@@ -6,7 +6,7 @@ use Rattle.std.proofs.lemmas.Bool.{false≢true}
 use Rattle.grade.specs.Kind.{Kind, Laws}
 use Rattle.treap.specs.Spots.{Spot}
 use Rattle.treap.specs.Trees.{Square, Tree, none, box, Meaning, Lawful}
-use Rattle.treap.specs.Layers.{kept, floor, floored, moved_spot, moved_square_lem, moved, shifted, past_edge_lem, shift_refusal}
+use Rattle.treap.specs.Layers.{kept, floor, floored, moved_spot, moved_square, moved, shifted, past_edge, shift_refusal}
 use Rattle.treap.specs.Piles.{
   Layer,
   floor_at,
@@ -40,7 +40,7 @@ moved_none (box i m a b c d) =
     let el = add_zero m.col in
     λ z. box i record { row = er z; col = el z; grade = m.grade } (ea z) (eb z) (ec z) (ed z)
 
-pub moved_square_none : (s : Square) → moved_square_lem 0 0 s ≡ s
+pub moved_square_none : (s : Square) → moved_square 0 0 s ≡ s
 moved_square_none s = λ z. record { level = s.level; top = add_zero s.top z; left = add_zero s.left z }
 
 shifted_none : (m : Meaning) → shifted 0 0 m ≡ m
@@ -55,7 +55,7 @@ pub add_on : (a b c : ℕ) → a + b + c ≡ a + (b + c)
 add_on a b c = omega arith
 
 module _ (r c r' c' : ℕ) where
-  pub moved_square_again : (s : Square) → moved_square_lem r' c' (moved_square_lem r c s) ≡ moved_square_lem (r + r') (c + c') s
+  pub moved_square_again : (s : Square) → moved_square r' c' (moved_square r c s) ≡ moved_square (r + r') (c + c') s
   moved_square_again s = λ z. record { level = s.level; top = add_on s.top r r' z; left = add_on s.left c c' z }
 
   moved_again : (t : Tree) → moved r' c' (moved r c t) ≡ moved (r + r') (c + c') t
@@ -166,10 +166,10 @@ grows k s (shift_by rows cols ∷ p) =
     let e = grows k (sum_with k s (shift_by rows cols)) p in
     (omega arith, omega arith)
 
-past_edge_grows : (r c r' c' : ℕ) (s : Square) → r ≤ r' → c ≤ c' → past_edge_lem r c s ≡ true → past_edge_lem r' c' s ≡ true
+past_edge_grows : (r c r' c' : ℕ) (s : Square) → r ≤ r' → c ≤ c' → past_edge r c s ≡ true → past_edge r' c' s ≡ true
 past_edge_grows r c r' c' s le le' e = grind (arith, nat_tests)
 
-within_edge : (k : Kind) (m : Meaning) → Lawful k m → past_edge_lem 0 0 m.square ≡ false
+within_edge : (k : Kind) (m : Meaning) → Lawful k m → past_edge 0 0 m.square ≡ false
 within_edge k m h = grind (arith, nat_tests, h.rows, h.cols)
 
 -- the pile over n is refused as the whole sum over m is, where the sum comes to s before it
@@ -177,29 +177,29 @@ abbrev AsOne : Kind → List Layer → Sum → Meaning → Meaning → Type 0
 AsOne k p s m n = pile_refusal k p n ≡ shift_refusal (summed_from k s p).rows (summed_from k s p).cols m
 
 refused : (k : Kind) (p : List Layer) (s : Sum) (m n : Meaning)
-    → n.square ≡ moved_square_lem s.rows s.cols m.square
-    → past_edge_lem s.rows s.cols m.square ≡ false
+    → n.square ≡ moved_square s.rows s.cols m.square
+    → past_edge s.rows s.cols m.square ≡ false
     → AsOne k p s m n
 refused k [] s m n e f = rw f refl
 refused k (floor_at g ∷ p) s m n e f = refused k p (sum_with k s (floor_at g)) m (floored k g n) e f
 refused k (shift_by rows cols ∷ p) s m n e f =
-    go (past_edge_lem (s.rows + rows) (s.cols + cols) m.square) refl
+    go (past_edge (s.rows + rows) (s.cols + cols) m.square) refl
     (refused k p next m (shifted rows cols n)
-    (ap (moved_square_lem rows cols) e ∙ moved_square_again s.rows s.cols rows cols m.square))
+    (ap (moved_square rows cols) e ∙ moved_square_again s.rows s.cols rows cols m.square))
   where
     next : Sum
     next = sum_with k s (shift_by rows cols)
 
-    here : past_edge_lem rows cols n.square ≡ past_edge_lem next.rows next.cols m.square
+    here : past_edge rows cols n.square ≡ past_edge next.rows next.cols m.square
     here =
         let q = m.square in
         let et = add_on q.top s.rows rows in
         let el = add_on q.left s.cols cols in
-        ap (past_edge_lem rows cols) e ∙ (λ z. ltb 65536 (et z + 2 ^ q.level) || ltb 65536 (el z + 2 ^ q.level))
+        ap (past_edge rows cols) e ∙ (λ z. ltb 65536 (et z + 2 ^ q.level) || ltb 65536 (el z + 2 ^ q.level))
 
     go : (v : Bool)
-        → past_edge_lem next.rows next.cols m.square ≡ v
-        → (past_edge_lem next.rows next.cols m.square ≡ false → AsOne k p next m (shifted rows cols n))
+        → past_edge next.rows next.cols m.square ≡ v
+        → (past_edge next.rows next.cols m.square ≡ false → AsOne k p next m (shifted rows cols n))
         → AsOne k (shift_by rows cols ∷ p) s m n
     go true g rest =
         let up = grows k next p in

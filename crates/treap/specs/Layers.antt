@@ -37,8 +37,8 @@ FloorShows =
 abbrev pub moved_spot : ℕ → ℕ → Spot → Spot
 moved_spot down right m = record { row = m.row + down; col = m.col + right; grade = m.grade }
 
-abbrev pub moved_square_lem : ℕ → ℕ → Square → Square
-moved_square_lem down right s = record { level = s.level; top = s.top + down; left = s.left + right }
+abbrev pub moved_square : ℕ → ℕ → Square → Square
+moved_square down right s = record { level = s.level; top = s.top + down; left = s.left + right }
 
 abbrev pub moved : ℕ → ℕ → Tree → Tree
 moved down right none = none
@@ -49,7 +49,7 @@ abbrev pub ShiftShows : Type 0
 ShiftShows =
     (k : Kind) (down right : ℕ) (s : Square) (t : Tree)
     → Ordered k s t
-    → Ordered k (moved_square_lem down right s) (moved down right t)
+    → Ordered k (moved_square down right s) (moved down right t)
     × ((x : Spot) → Shows t x → Shows (moved down right t) (moved_spot down right x))
     × ((x : Spot) → Shows (moved down right t) x → (y : Spot) × Shows t y × (x ≡ moved_spot down right y))
     × (numbers (moved down right t) ≡ numbers t)
@@ -58,11 +58,11 @@ abbrev pub floored : Kind → ℕ → Meaning → Meaning
 floored k g m = record { square = m.square; ceiling = m.ceiling; tree = floor k g m.tree }
 
 abbrev pub shifted : ℕ → ℕ → Meaning → Meaning
-shifted down right m = record { square = moved_square_lem down right m.square; ceiling = m.ceiling; tree = moved down right m.tree }
+shifted down right m = record { square = moved_square down right m.square; ceiling = m.ceiling; tree = moved down right m.tree }
 
 -- a row or a column of the square, moved so far, would pass 65535
-abbrev pub past_edge_lem : ℕ → ℕ → Square → Bool
-past_edge_lem down right s = nat_lt 65536 ((s.top + down) + 2 ^ s.level) || nat_lt 65536 ((s.left + right) + 2 ^ s.level)
+abbrev pub past_edge : ℕ → ℕ → Square → Bool
+past_edge down right s = nat_lt 65536 ((s.top + down) + 2 ^ s.level) || nat_lt 65536 ((s.left + right) + 2 ^ s.level)
 
 abbrev pub shift_refusal : ℕ → ℕ → Meaning → Option ℕ
-shift_refusal down right m = first (record { number = 18; fits = past_edge_lem down right m.square } ∷ [])
+shift_refusal down right m = first (record { number = 18; fits = past_edge down right m.square } ∷ [])

@@ -1,6 +1,6 @@
 use Rattle.std.proofs.Common.{◌+◌, sym, ap, ◌∙◌, arith}
 use Rattle.treap.specs.Trees.{Square}
-use Rattle.treap.specs.Layers.{past_edge_lem}
+use Rattle.treap.specs.Layers.{past_edge}
 use Rattle.boxtree.proofs.Replies.{level_small}
 use Rattle.layer.proofs.Piling.{none_moved, floor_moved, shift_moved, within}
 use Rattle.layer.proofs.pile.check_pile.Goals.{in-Floor, in-Shift+else-past_edge}
@@ -29,7 +29,7 @@ loop-i-preserved g c =
           (floor_moved k code layers m l.i l.down l.along y.result c.loop-i-test.true y.ensures _ w.in-Floor.is l.invariant.0, l.invariant.1, l.invariant.2)
       | in-Shift+else-past_edge w ↦
           let v = w.in-Shift in
-          let inside = ap (past_edge_lem (l.down + v.rows) (l.along + v.cols)) (sym c.square-square.ensures.is) ∙ sym w.if-past_edge.ensures in
+          let inside = ap (past_edge (l.down + v.rows) (l.along + v.cols)) (sym c.square-square.ensures.is) ∙ sym w.if-past_edge.ensures in
           let f = within _ _ m inside in
           rw (w.down-is, w.along-is) (
             shift_moved k code layers m l.i l.down l.along y.result c.loop-i-test.true y.ensures v.rows v.cols v.is inside l.invariant.0,
