@@ -1,11 +1,11 @@
 -- What the answers of a box tree tell.
-use Rattle.std.proofs.Common.{◌≡◌, ℕ, ◌^◌, ◌≤◌, Bool, true, false, ltb, Ok, Err, Option, refl, inl, arith, pow_mono}
-use native.Mathlib.Decide.{dec_le}
+use Rattle.std.proofs.Common.{◌≡◌, ℕ, ◌≤◌, Bool, true, false, ltb, Ok, Err, Option, refl, inl, arith}
 use Rattle.grade.specs.Kind.{Kind}
 use Rattle.boxtree.specs.declared.refusal.Absent.{Absent}
 use Rattle.treap.specs.Spots.{Spot}
 use Rattle.treap.specs.Trees.{Within, Tree, none, box, number, sub, find, Shows, Meaning, Lawful}
 use Rattle.boxtree.specs.Answers.{absent, child_of, mark_of}
+use Rattle.boxtree.proofs.Dividing.{at_most_16}
 use Rattle.treap.proofs.Shown.{shown_holds}
 use Rattle.treap.proofs.Find.{find_shown}
 
@@ -31,12 +31,4 @@ inside {k} {m} h b {s} i = (shown_holds k m.square m.tree h.ordered s (find_show
 
 -- The side of the square is 2 ^ 16 at most.
 pub level_small : {k : Kind} {m : Meaning} (h : Lawful k m) → m.square.level ≤ 16
-level_small {k} {m} h = go (dec_le m.square.level 16)
-  where
-    go : Dec (m.square.level ≤ 16) → m.square.level ≤ 16
-    go (yes p) = p
-    go (no p) =
-        let l : 17 ≤ m.square.level = omega arith in
-        let q : 2 ^ 17 ≤ 2 ^ m.square.level = pow_mono l in
-        let r = h.rows in
-        absurd (omega arith)
+level_small {k} {m} h = at_most_16 m.square.level m.square.top h.rows

@@ -1,4 +1,5 @@
 pub mod Marks
 pub mod Squares
+pub mod Quadrants
 pub mod Refusals
 pub mod Answers

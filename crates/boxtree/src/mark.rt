@@ -1,16 +1,29 @@
 //! A mark: a cell of the grid, and the grade that stands there.
 ghost use Rattle.std.specs.Prelude.{◌≡◌, Decides};
-ghost use Rattle.treap.specs.Spots.{Before, Outranks};
+ghost use Rattle.treap.specs.Spots.{Outranks};
 ghost use Rattle.boxtree.specs.Marks.{spot_of};
 
+use crate::cell::Cell;
 use grade::Grade;
 
 /// The grade that stands in the cell (`row`, `col`).
-#[derive(Clone, Copy)]
+#[derive(Clone, Copy, PartialEq, Eq, Debug)]
 pub struct Mark<G> {
     pub row: u16,
     pub col: u16,
     pub grade: G,
+}
+
+impl<G> Mark<G> {
+    /// The cell in which it stands.
+    pub fn cell(&self) -> Cell
+        ensures { result ≡ record { row = self.now.row; col = self.now.col } }
+    {
+        Cell {
+            row: self.row,
+            col: self.col,
+        }
+    }
 }
 
 impl<G: Grade> Mark<G> {
@@ -23,14 +36,7 @@ impl<G: Grade> Mark<G> {
         } else if !self.grade.above(other.grade) {
             false
         } else {
-            self.before(other)
+            self.cell() < other.cell()
         }
-    }
-
-    // Whether its cell comes before the other mark's, row by row.
-    fn before(self, other: Mark<G>) -> bool
-        ensures { Decides result (Before (spot_of G.Grade.coded self) (spot_of G.Grade.coded other)) }
-    {
-        self.row < other.row || (self.row == other.row && self.col < other.col)
     }
 }

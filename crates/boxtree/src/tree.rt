@@ -13,37 +13,29 @@ use grade::Grade;
 pub trait BoxTree {
     type G: Grade;
 
-    // What has to hold of a tree that is asked.
-    ghost sound: { Self → Type 0 };
-
     // Its square, its boxes, and a number that the count of these does not pass. It is lawful, as three of the answers say.
     ghost shown: { Self → Meaning };
 
     /// The square of the tree and of its root.
     fn square(&self) -> Square
-        requires { sound self.now }
         ensures is { square_of result ≡ (shown self.now).square }
         ensures lawful { Lawful Self.G.Grade.kind (shown self.now) };
 
     /// The root, if there is a box.
     fn root(&self) -> Option<u32>
-        requires { sound self.now }
         ensures { result ≡ number (shown self.now).tree };
 
     /// The box in quadrant `q` of the box `b`, if there is one: 0 top left, 1 top right, 2 bottom left, 3 bottom right.
     fn child(&self, b: u32, q: u8) -> Result<Option<u32>, Absent>
-        requires { sound self.now }
         ensures { result ≡ child_of q (find b (shown self.now).tree) };
 
     /// The mark of the box `b`.
     fn mark(&self, b: u32) -> Result<Mark<Self::G>, Absent>
-        requires { sound self.now }
         ensures is { spotted Self.G.Grade.coded result ≡ mark_of (find b (shown self.now).tree) }
         ensures lawful { Lawful Self.G.Grade.kind (shown self.now) };
 
     /// A number that the count of the boxes does not pass.
     fn ceiling(&self) -> u16
-        requires { sound self.now }
         ensures is { result ≡ (shown self.now).ceiling }
         ensures lawful { Lawful Self.G.Grade.kind (shown self.now) };
 }

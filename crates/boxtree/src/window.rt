@@ -1,7 +1,7 @@
 //! The part of the grid that is drawn.
 
 /// The rows from `top` to `bottom` and the columns from `left` to `right`, the ends among them.
-#[derive(Clone, Copy)]
+#[derive(Clone, Copy, PartialEq, Eq, Debug)]
 pub struct Window {
     pub top: u16,
     pub left: u16,

@@ -56,8 +56,5 @@ pub fn step_back<G: Grade>(from: G, to: G) -> Option<G>
 {
     let _ = from.code();
     let _ = to.code();
-    match from.step(to) {
-        Some(s) => from.back(s),
-        None => None,
-    }
+    from.back(from.step(to)?)
 }

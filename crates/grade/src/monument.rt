@@ -7,6 +7,7 @@ ghost use Rattle.std.proofs.Common.{rules};
 ghost use Rattle.grade.specs.Laws.{monument_laws};
 
 use crate::Grade;
+use refusals::Refusal;
 
 /// A grade of the lower class stands above, and of one class the later year does. Whatever the number `v` is, it is read
 /// as a lawful grade: class 1 + (v mod 2000) div 400, year 1700 + v mod 400.
@@ -16,14 +17,15 @@ pub struct Monument {
 }
 
 /// The class or the year is out of range.
-#[derive(Clone, Copy)]
+#[derive(Clone, Copy, PartialEq, Eq, Debug)]
 pub struct BadGrade;
 
-impl BadGrade {
-    /// The number of the refusal.
-    pub fn number(self) -> u8
-        ensures { result ≡ bad_grade_number self }
-    {
+impl Refusal for BadGrade {
+    ghost numbered = { bad_grade_number };
+
+    ghost listed = { Prim.search rules };
+
+    fn number(self) -> u8 {
         3
     }
 }
@@ -67,6 +69,10 @@ impl PartialEq for Monument {
     }
 }
 
+impl Eq for Monument {
+    ghost laws = { Prim.search (comparing, rules) };
+}
+
 impl Grade for Monument {
     ghost kind = { monument };
 
@@ -93,24 +99,18 @@ impl Grade for Monument {
     }
 
     fn from_code(code: u16) -> Option<Monument> {
-        match Monument::new(code / 512, 1700 + code % 512) {
-            Ok(grade) => Some(grade),
-            Err(_) => None,
-        }
+        Monument::new(code / 512, 1700 + code % 512).ok()
     }
 
     fn step(self, to: Monument) -> Option<u16> {
-        if self.above(to) {
-            Some((to.class() - self.class()) * 512 + (to.year() - 1700))
-        } else {
-            None
+        if !self.above(to) {
+            return None;
         }
+        Some((to.class() - self.class()) * 512 + (to.year() - 1700))
     }
 
     fn back(self, by: u16) -> Option<Monument> {
-        match Monument::new(self.class() + by / 512, 1700 + by % 512) {
-            Ok(to) => if self.above(to) { Some(to) } else { None },
-            Err(_) => None,
-        }
+        let to = Monument::new(self.class() + by / 512, 1700 + by % 512).ok()?;
+        self.above(to).then_some(to)
     }
 }

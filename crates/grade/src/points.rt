@@ -6,7 +6,7 @@ ghost use Rattle.std.proofs.Common.{rules};
 use crate::Grade;
 
 /// A grade in points. The code is the number.
-#[derive(Clone, Copy)]
+#[derive(Clone, Copy, PartialEq, Eq, Debug)]
 pub struct Points {
     pub value: u16,
 }
@@ -35,20 +35,11 @@ impl Grade for Points {
     }
 
     fn step(self, to: Points) -> Option<u16> {
-        if to.value <= self.value {
-            Some(self.value - to.value)
-        } else {
-            None
-        }
+        self.value.checked_sub(to.value)
     }
 
     fn back(self, by: u16) -> Option<Points> {
-        if by <= self.value {
-            Some(Points {
-                value: self.value - by,
-            })
-        } else {
-            None
-        }
+        let value = self.value.checked_sub(by)?;
+        Some(Points { value })
     }
 }
