@@ -1,6 +1,8 @@
 //! The commands that a line can say, and the refusal of a line that says none.
+ghost use Rattle.std.proofs.Common.{rules};
 ghost use Rattle.book.specs.Refusals.{refusal_number};
-ghost use Rattle.std.specs.Prelude.{◌≡◌};
+
+use refusals::Refusal;
 
 /// What a line asks for. Every number is at most 65,535; whether it fits the plan is not looked at here.
 #[derive(Clone, Copy, PartialEq, Eq, Debug)]
@@ -45,11 +47,12 @@ pub enum Command {
 #[derive(Clone, Copy, PartialEq, Eq, Debug)]
 pub struct Unusable;
 
-impl Unusable {
-    /// The number by which the refusal is answered.
-    pub fn number(self) -> u8
-        ensures { result ≡ refusal_number self }
-    {
+impl Refusal for Unusable {
+    ghost numbered = { refusal_number };
+
+    ghost listed = { Prim.search rules };
+
+    fn number(self) -> u8 {
         24
     }
 }

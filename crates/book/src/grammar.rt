@@ -104,12 +104,9 @@ fn digits(text: &[u8]) -> usize
     ensures front { All Digit (take result text.now) }
     ensures rest { NoDigit (drop result text.now) }
 {
-    for (i, byte) in text.iter().enumerate() {
-        if !byte.is_ascii_digit() {
-            return i;
-        }
-    }
-    text.len()
+    text.iter()
+        .position(|byte| !byte.is_ascii_digit())
+        .unwrap_or(text.len())
 }
 
 // The number that five digits or fewer write.

@@ -47,7 +47,7 @@ impl fmt::Display for DrawnLine {
 }
 
 /// A mark of a draw, by its row, column and grade, one line: `1 1 5`.
-#[derive(Clone, Copy)]
+#[derive(Clone, Copy, PartialEq, Eq, Debug)]
 pub struct MarkLine {
     pub row: u16,
     pub col: u16,

@@ -1,7 +1,0 @@
--- No byte 10 was passed.
-use Rattle.std.proofs.Common.{◌≡◌, ℕ, ◌<◌, get_or}
-use Rattle.book.specs.Lines.{newline}
-use Rattle.book.proofs.lines.line_end.Given as goal
-
-abbrev pub invariant-loop-i : goal.invariant-loop-i
-invariant-loop-i l = (k : ℕ) → k < l.i → get_or l.text k 0 ≡ newline → ⊥
