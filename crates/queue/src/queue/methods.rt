@@ -1,5 +1,5 @@
 //! A new queue, and what is asked of one.
-ghost use Rattle.std.specs.Prelude.{◌≡◌, [], length};
+ghost use Rattle.std.specs.Prelude.{◌≡◌, ◌↔◌, IsTrue, [], length};
 ghost use Rattle.queue.specs.Waiting.{room};
 
 use crate::queue::Queue;
@@ -20,5 +20,12 @@ impl<'a, E: Ranked> Queue<'a, E> {
         ensures { result ≡ length self.now.held }
     {
         self.len
+    }
+
+    /// Whether it holds nothing.
+    pub fn is_empty(&self) -> bool
+        ensures { IsTrue result ↔ (self.now.held ≡ []) }
+    {
+        self.len == 0
     }
 }
