@@ -1,3 +1,2 @@
 pub mod Rankings
 mod Moves
-mod Parts

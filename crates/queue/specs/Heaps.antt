@@ -18,13 +18,13 @@ module _ {E : Type 0} (over : E → E → Bool) where
   abbrev pub Over : List E → ℕ → ℕ → Type 0
   Over xs j n = (k : ℕ) (d : E) → 0 < j → 0 < k → k < n → up k ≡ j → over (slice_index_or xs k d) (slice_index_or xs (up j) d) ≡ false
 
-  unfoldable pub Rising : List E → ℕ → ℕ → Type 0
+  abbrev pub Rising : List E → ℕ → ℕ → Type 0
   Rising xs j n =
       ((k : ℕ) (d : E) → 0 < k → k < n → (k ≢ j) → over (slice_index_or xs k d) (slice_index_or xs (up k) d) ≡ false) × Over xs j n
 
-  unfoldable pub Sinking : List E → ℕ → ℕ → Type 0
+  abbrev pub Sinking : List E → ℕ → ℕ → Type 0
   Sinking xs j n =
       ((k : ℕ) (d : E) → 0 < k → k < n → (up k ≢ j) → over (slice_index_or xs k d) (slice_index_or xs (up k) d) ≡ false) × Over xs j n
 
-  unfoldable pub Best : List E → ℕ → ℕ → ℕ → Type 0
+  abbrev pub Best : List E → ℕ → ℕ → ℕ → Type 0
   Best xs j c n = (k : ℕ) (d : E) → 0 < k → k < n → up k ≡ j → over (slice_index_or xs k d) (slice_index_or xs c d) ≡ false

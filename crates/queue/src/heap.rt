@@ -5,29 +5,21 @@ ghost use Rattle.queue.specs.Heaps.{Heap, Rising, Sinking, Best, up};
 
 use crate::ranked::Ranked;
 
-// Whether the entry at `i` outranks the one at `j`.
-fn outranks_at<E: Ranked>(heap: &[E], i: usize, j: usize) -> bool
-    requires { (i < length heap.now) × (j < length heap.now) }
-    ensures { (d : E) → result ≡ E.over (slice_index_or heap.now i d) (slice_index_or heap.now j d) }
-{
-    heap[i].outranks(heap[j])
-}
-
 // Moves the entry at `at` up past those that it outranks.
-pub(crate) fn rise<E: Ranked>(heap: &mut [E], at: usize)
+pub(crate) fn rise<E: Ranked>(heap: &mut [E], mut at: usize)
     requires within { at < length heap.old }
     requires rising { Rising E.over heap.old at (length heap.old) }
     ensures len { length heap.new ≡ length heap.old }
     ensures shuffled { IsPermutation heap.old heap.new }
     ensures heaped { Heap E.over heap.new (length heap.old) }
 {
-    if at == 0 {
-        return;
-    }
-    let above = (at - 1) / 2;
-    if outranks_at(heap, at, above) {
+    while at > 0 {
+        let above = (at - 1) / 2;
+        if !heap[at].outranks(heap[above]) {
+            return;
+        }
         heap.swap(at, above);
-        rise(heap, above);
+        at = above;
     }
 }
 
@@ -38,29 +30,27 @@ fn best_below<E: Ranked>(heap: &[E], at: usize) -> usize
     ensures best { Best E.over heap.now at result (length heap.now) }
 {
     let left = at * 2 + 1;
-    if left + 1 == heap.len() {
-        return left;
-    }
-    if outranks_at(heap, left + 1, left) {
-        left + 1
+    let right = left + 1;
+    if right < heap.len() && heap[right].outranks(heap[left]) {
+        right
     } else {
         left
     }
 }
 
 // Moves the entry at `at` down past those that outrank it.
-pub(crate) fn settle<E: Ranked>(heap: &mut [E], at: usize)
+pub(crate) fn settle<E: Ranked>(heap: &mut [E], mut at: usize)
     requires { Sinking E.over heap.old at (length heap.old) }
     ensures len { length heap.new ≡ length heap.old }
     ensures shuffled { IsPermutation heap.old heap.new }
     ensures heaped { Heap E.over heap.new (length heap.old) }
 {
-    if heap.len() / 2 <= at {
-        return;
-    }
-    let below = best_below(heap, at);
-    if outranks_at(heap, below, at) {
+    while at < heap.len() / 2 {
+        let below = best_below(heap, at);
+        if !heap[below].outranks(heap[at]) {
+            return;
+        }
         heap.swap(below, at);
-        settle(heap, below);
+        at = below;
     }
 }

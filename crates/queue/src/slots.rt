@@ -16,9 +16,8 @@ pub(crate) fn insert<E: Ranked>(slots: &mut [E], len: usize, entry: E)
     ensures heap { Heap E.over slots.new (len + 1) }
     ensures spare { drop (len + 1) slots.new ≡ drop 1 (drop len slots.old) }
 {
-    let live = &mut slots[0..len + 1];
-    live[len] = entry;
-    rise(live, len);
+    slots[len] = entry;
+    rise(&mut slots[..=len], len);
 }
 
 // Takes the top of the first `len` out; the last of them fills its place, and settles.
@@ -34,6 +33,6 @@ pub(crate) fn extract<E: Ranked>(slots: &mut [E], len: usize) -> E
     let last = len - 1;
     let top = slots[0];
     slots[0] = slots[last];
-    settle(&mut slots[0..last], 0);
+    settle(&mut slots[..last], 0);
     top
 }

@@ -1,0 +1,13 @@
+use Rattle.std.proofs.Common.{length, ◌-◌}
+use Rattle.std.specs.List.Sorted.{IsPermutation}
+use Rattle.queue.specs.Heaps.{Sinking}
+use Rattle.queue.proofs.heap.settle.Given as goal
+
+abbrev pub invariant-loop-at : goal.invariant-loop-at
+invariant-loop-at g l = record {
+  shuffled : IsPermutation l.initial.heap l.heap;
+  sinking : Sinking g.E.Ranked.over l.heap l.at (length l.heap);
+}
+
+abbrev pub decreases-loop-at : goal.decreases-loop-at
+decreases-loop-at g l = length l.heap - l.at
