@@ -1,26 +1,22 @@
 -- What is known of a box that is looked at.
-use Rattle.std.proofs.Common.{◌≡◌, ℕ, zero, suc, pred, ◌+◌, ◌-◌, ◌*◌, ◌%◌, ◌^◌, ◌<◌, ◌≤◌, max, true, false, ltb, leb, Some, None, Ok, sym, refl, ap, ◌∙◌, inl, inr, sub-one, arith, pow_pos, w16, Fits}
-use Rattle.std.proofs.lemmas.Nat.{one_shl}
+use Rattle.std.proofs.Common.{◌≡◌, ℕ, pred, ◌+◌, ◌^◌, ◌<◌, ◌≤◌, max, true, false, ltb, leb, Some, Option, Ok, Err, Result, sym, refl, ap, ◌∙◌, subst, subst₂, inl, inr, arith, pow_pos}
+use Rattle.std.specs.Result.{result_ok}
 use Rattle.std.proofs.lemmas.Bool.{true≢false, and_parts, leb-true, ltb-true, le-leb, lt-ltb}
 use Rattle.grade.specs.Kind.{Kind}
 use Rattle.treap.specs.Spots.{Spot}
-use Rattle.treap.specs.Trees.{Quadrant, tl, tr, bl, br, Square, quadrant, Tree, none, box, pick, number, sub, find, Hangs, Ordered, Meaning, Lawful}
+use Rattle.treap.specs.Trees.{Quadrant, tl, tr, bl, br, index, Square, quadrant, Tree, none, box, pick, number, sub, find, Hangs, Ordered, Meaning, Lawful}
 use Rattle.treap.specs.Draws.{Window, Sees, Touches, Part, whole, deeper}
 use Rattle.treap.specs.Searches.{Node, tree, child}
 use Rattle.treap.proofs.Shown.{halves, hangs}
 use Rattle.treap.proofs.Needed.{part_lawful}
-use Rattle.treap.proofs.Find.{found, Found, number_none, find_sub, find_part}
-use Rattle.boxtree.specs.Answers.{child_of, mark_of}
-use Rattle.boxtree.proofs.Replies.{child_number}
-use Rattle.draw.specs.Nodes.{Upright, touching, seeing, nth}
-
-pub half_fits : (l x : ℕ) → 0 < l → l ≤ 16 → x + 2 ^ l ≤ 65536 → Fits w16 (x + (1 * 2 ^ (l - 1)) % 65536)
-half_fits l x p h f =
-    let e : (1 * 2 ^ (l - 1)) % 65536 ≡ 2 ^ (l - 1) = one_shl (l - 1) 16 (omega arith) in
-    let i : 2 ^ (l - 1) ≡ 2 ^ pred l = ap (λ (m : ℕ). 2 ^ m) (sub-one l) in
-    let d = halves l p in
-    let z : 0 < 2 ^ pred l = pow_pos (pred l) in
-    omega arith
+use Rattle.treap.proofs.Find.{found, Found, find_sub, find_part}
+use Rattle.boxtree.specs.Answers.{child_of, mark_of, spotted}
+use Rattle.boxtree.specs.Marks.{spot_of}
+use Rattle.boxtree.specs.Squares.{Divided}
+use Rattle.boxtree.specs.declared.mark.Mark.{Mark}
+use Rattle.boxtree.specs.declared.refusal.Absent.{Absent}
+use Rattle.boxtree.proofs.Replies.{child_number, level_small}
+use Rattle.draw.specs.Nodes.{Upright, touching, seeing}
 
 pub touching_yes : (s : Square) (w : Window) → Upright w → touching s w ≡ true → Touches s w
 touching_yes s w u h =
@@ -63,6 +59,15 @@ seeing_no w m h e =
     let b0 : leb w.left m.col ≡ true = le-leb _ _ e.not_left in
     let b1 : leb m.col w.right ≡ true = le-leb _ _ e.not_right in
     true≢false (rw (a0, a1, b0, b1) at h)
+
+-- what is told by a mark and by a number that are answered
+pub mark_told : {G : Type 0} (code : G → ℕ) (r : Result (Mark G) Absent) (m : Mark G) (u : Tree) → spotted code r ≡ mark_of u → result_ok r ≡ Some m → Ok (spot_of code m) ≡ mark_of u
+mark_told code (Ok x) m u h e = let p : x ≡ m = cc in subst (λ (y : Mark _). Ok (spot_of code y) ≡ mark_of u) p h
+mark_told code (Err x) m u h e = let z : ◌≡◌ {A = ℕ} 0 1 = cc in absurd (omega arith)
+
+pub number_told : (r : Result (Option ℕ) Absent) (o : Option ℕ) (c q : ℕ) (u : Tree) → r ≡ child_of q u → result_ok r ≡ Some o → o ≡ Some c → Ok (Some c) ≡ child_of q u
+number_told (Ok x) o c q u h e f = let p : x ≡ Some c = cc in sym (ap Ok p) ∙ h
+number_told (Err x) o c q u h e f = let z : ◌≡◌ {A = ℕ} 0 1 = cc in absurd (omega arith)
 
 -- a box taken apart and put together
 together : (u : Tree) (n : ℕ) (m : Spot) → number u ≡ Some n → Ok m ≡ mark_of u → box n m (sub 0 u) (sub 1 u) (sub 2 u) (sub 3 u) ≡ u
@@ -111,35 +116,57 @@ part_lies k whole h n e = record { not_above = omega arith; not_below = omega ar
 part_lies k {s} (deeper {r = r} {i = i} {m = m} {a = a} {b = b} {c = c} {d = d} p q) h n e =
     lies_quadrant s r q (has_quadrants k r m (pick a b c d q) n (hangs k r i m a b c d (part_lawful k p h) q) e) (part_lies k p h i refl)
 
--- the quadrant by its number
-pub sub_nth : (q : ℕ) (f : Node) → q < 4 → sub q (tree f) ≡ child f (nth q)
-sub_nth zero f h = refl
-sub_nth (suc zero) f h = refl
-sub_nth (suc (suc zero)) f h = refl
-sub_nth (suc (suc (suc zero))) f h = refl
-sub_nth (suc (suc (suc (suc q)))) f h = absurd (omega arith)
+-- the box in a quadrant, by the index of that
+pub sub_index : (q : Quadrant) (f : Node) → sub (index q) (tree f) ≡ child f q
+sub_index tl f = refl
+sub_index tr f = refl
+sub_index bl f = refl
+sub_index br f = refl
 
 -- a box of which the tree t has as a part, asked for the box in quadrant q
-module _ {k : Kind} {m : Meaning} (h : Lawful k m) (f : Node) (p : Part m.square m.tree f.square (tree f)) (q : ℕ) (lt : q < 4) where
+module _ {k : Kind} {m : Meaning} (h : Lawful k m) (f : Node) (p : Part m.square m.tree f.square (tree f)) (q : Quadrant) where
   pub itself : find f.number m.tree ≡ tree f
   itself = find_part m.square m.tree f.number f.square (tree f) p h.apart refl
 
-  quadrant_is : sub q (find f.number m.tree) ≡ child f (nth q)
-  quadrant_is = ap (sub q) itself ∙ sub_nth q f lt
+  quadrant_is : sub (index q) (find f.number m.tree) ≡ child f q
+  quadrant_is = ap (sub (index q)) itself ∙ sub_index q f
 
-  pub kid_found : (c : ℕ) → Ok (Some c) ≡ child_of q (find f.number m.tree) → find c m.tree ≡ child f (nth q)
-  kid_found c e = find_sub f.number c q m.tree h.apart (child_number q _ (Some c) e) ∙ quadrant_is
+  pub kid_found : (c : ℕ) → Ok (Some c) ≡ child_of (index q) (find f.number m.tree) → find c m.tree ≡ child f q
+  kid_found c e = find_sub f.number c (index q) m.tree h.apart (child_number (index q) _ (Some c) e) ∙ quadrant_is
 
-  pub kid_number : (c : ℕ) → Ok (Some c) ≡ child_of q (find f.number m.tree) → number (child f (nth q)) ≡ Some c
-  kid_number c e = ap number (sym quadrant_is) ∙ child_number q _ (Some c) e
+  pub kid_number : (c : ℕ) → Ok (Some c) ≡ child_of (index q) (find f.number m.tree) → number (child f q) ≡ Some c
+  kid_number c e = ap number (sym quadrant_is) ∙ child_number (index q) _ (Some c) e
 
-  pub kid_quadrants : (c : ℕ) → Ok (Some c) ≡ child_of q (find f.number m.tree) → 0 < f.square.level
+  pub kid_quadrants : (c : ℕ) → Ok (Some c) ≡ child_of (index q) (find f.number m.tree) → 0 < f.square.level
   kid_quadrants c e =
-      has_quadrants k f.square f.mark (child f (nth q)) c
-      (hangs k f.square f.number f.mark f.a f.b f.c f.d (part_lawful k p h.ordered) (nth q)) (kid_number c e)
+      has_quadrants k f.square f.mark (child f q) c
+      (hangs k f.square f.number f.mark f.a f.b f.c f.d (part_lawful k p h.ordered) q) (kid_number c e)
 
   pub place : Lies m.square f.square
   place = part_lies k p h.ordered f.number refl
 
-  pub no_kid : Ok None ≡ child_of q (find f.number m.tree) → child f (nth q) ≡ none
-  no_kid e = sym quadrant_is ∙ number_none _ (child_number q _ None e)
+-- what is known of a box below f, once the tree has answered its number: f's square has quadrants, and it is the box of the one
+-- that was asked for
+pub record Kid (m : Meaning) (f : Node) (q : Quadrant) (n : ℕ) : Type 0 where
+  pub divided : Divided f.square
+  pub low : pred f.square.level ≤ 16
+  pub box : find n m.tree ≡ child f q
+
+pub kid : {X : Type 0} (shown : X → Meaning) {k : Kind} {x y : X} → x ≡ y → Lawful k (shown x)
+    → (f : Node) → Part (shown y).square (shown y).tree f.square (tree f) → (q : Quadrant) (i : ℕ) → i ≡ index q
+    → (r : Result (Option ℕ) Absent) (o : Option ℕ) (n : ℕ)
+    → r ≡ child_of i (find f.number (shown x).tree) → result_ok r ≡ Some o → o ≡ Some n
+    → Kid (shown y) f q n
+kid {X} shown {k} {x} {y} e lawful f p q i j r o n answer ok some =
+    let h : Lawful k (shown y) = subst (λ (z : X). Lawful k (shown z)) e lawful in
+    let a : r ≡ child_of (index q) (find f.number (shown y).tree) = subst₂ (λ (z : X) (l : ℕ). r ≡ child_of l (find f.number (shown z).tree)) e j answer in
+    let told = number_told r o n (index q) (find f.number (shown y).tree) a ok some in
+    let l = place h f p q in
+    let rows = h.rows in
+    let cols = h.cols in
+    let m = level_small h in
+    record {
+      divided = record { deep = kid_quadrants h f p q n told; rows = omega arith; cols = omega arith };
+      low = omega arith;
+      box = kid_found h f p q n told;
+    }

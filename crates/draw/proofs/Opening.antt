@@ -6,15 +6,19 @@ use Rattle.std.specs.List.Sorted.{IsPermutation, apply_swaps, SwapsInRange}
 use Rattle.std.specs.List.{swap}
 use Rattle.std.proofs.lemmas.List.Sorted.{IsPermutation-refl, IsPermutation-trans, IsPermutation-cons, sum_by-IsPermutation}
 use Rattle.std.proofs.lemmas.List.Sums.{sum_by-cons, sum_by-append}
-use Rattle.treap.specs.Trees.{index, Square, quadrant, Tree, sub, count}
+use Rattle.treap.specs.Trees.{Quadrant, tl, tr, bl, br, index, Square, quadrant, Tree, sub, count}
 use Rattle.treap.specs.Draws.{Window, Touches}
 use Rattle.treap.specs.Searches.{Node, tree, child, KidsBelow}
 use Rattle.treap.proofs.Walks.{Kids}
 use Rattle.treap.proofs.Kids.{kids_none, kids_skip, kids_push, kids_all}
+use Rattle.boxtree.specs.declared.quadrant.Quadrant as boxtree
+use Rattle.boxtree.specs.declared.quadrant.Quadrant.TheVariants.{TopLeft, TopRight, BottomLeft, BottomRight}
+use Rattle.boxtree.specs.Quadrants.{quadrant_of}
+use Rattle.boxtree.specs.Squares.{square_of}
 use Rattle.draw.specs.declared.entry.Entry.{Entry}
-use Rattle.draw.specs.Nodes.{nth, noded, nodes, Looked, weight}
+use Rattle.draw.specs.Nodes.{node, noded, nodes, Looked, weight}
 use Rattle.draw.specs.Opened.{with, few, Opening}
-use Rattle.draw.proofs.Looking.{sub_nth}
+use Rattle.draw.proofs.Looking.{sub_index}
 
 -- what is done to a list is done to its image
 module _ {X Y : Type 0} (f : X → Y) where
@@ -45,19 +49,19 @@ pub long_weight : (l : List Node) → length l ≤ weight l
 long_weight [] = omega arith
 long_weight (e ∷ l) = let h = long_weight l in let c = sum_by-cons (λ (x : Node). count (tree x)) e l in omega arith
 
-few_less : (f : Node) (q : ℕ) → q < 4 → few f q + count (sub q (tree f)) < count (tree f)
-few_less f zero h = omega arith
-few_less f (suc zero) h = omega arith
-few_less f (suc (suc zero)) h = omega arith
-few_less f (suc (suc (suc zero))) h = omega arith
-few_less f (suc (suc (suc (suc q)))) h = absurd (omega arith)
+few_less : (f : Node) (q : Quadrant) → few f (index q) + count (sub (index q) (tree f)) < count (tree f)
+few_less f tl = omega arith
+few_less f tr = omega arith
+few_less f bl = omega arith
+few_less f br = omega arith
 
-index_nth : (q : ℕ) → q < 4 → index (nth q) ≡ q
-index_nth zero h = refl
-index_nth (suc zero) h = refl
-index_nth (suc (suc zero)) h = refl
-index_nth (suc (suc (suc zero))) h = refl
-index_nth (suc (suc (suc (suc q)))) h = absurd (omega arith)
+-- the quadrants stand in the order of their indices
+pub index_at : (k : ℕ) (d : boxtree.Quadrant) → k < 4 → index (quadrant_of (get_or (TopLeft ∷ (TopRight ∷ (BottomLeft ∷ (BottomRight ∷ [])))) k d)) ≡ k
+index_at zero d h = refl
+index_at (suc zero) d h = refl
+index_at (suc (suc zero)) d h = refl
+index_at (suc (suc (suc zero))) d h = refl
+index_at (suc (suc (suc (suc k)))) d h = absurd (omega arith)
 
 -- the boxes right below f that touch the window have come in
 pub record Opened (w : Window) (f : Node) (before after : List Node) : Type 0 where
@@ -69,50 +73,61 @@ pub record Opened (w : Window) (f : Node) (before after : List Node) : Type 0 wh
 pub opens : (w : Window) (f : Node) (before : List Node) → Opening w f 0 before before
 opens w f before = record { kids = []; are = kids_none w f; shuffled = IsPermutation-refl before; light = omega arith }
 
-module _ (w : Window) (f : Node) (q : ℕ) (lt : q < 4) (before mid after : List Node) (h : Opening w f q before mid) where
-  at_nth : KidsBelow w f (index (nth q)) h.kids
-  at_nth = subst (λ (n : ℕ). KidsBelow w f n h.kids) (sym (index_nth q lt)) h.are
+module _ (w : Window) (f : Node) (q : Quadrant) (before mid after : List Node) (h : Opening w f (index q) before mid) where
+  few_next : few f (index q + 1) ≡ few f (index q) + count (sub (index q) (tree f))
+  few_next = ap (few f) (add-one (index q))
 
-  next : (l : List Node) → KidsBelow w f (index (nth q) + 1) l → KidsBelow w f (q + 1) l
-  next l v = subst (λ (n : ℕ). KidsBelow w f (n + 1) l) (index_nth q lt) v
-
-  few_next : few f (q + 1) ≡ few f q + count (sub q (tree f))
-  few_next = ap (few f) (add-one q)
-
-  pub another : (o : Option Node) → Looked w (quadrant (nth q) f.square) (child f (nth q)) o → IsPermutation (with o mid) after → Opening w f (q + 1) before after
+  pub another : (o : Option Node) → Looked w (quadrant q f.square) (child f q) o → IsPermutation (with o mid) after → Opening w f (index q + 1) before after
   another None v s = record {
     kids = h.kids;
-    are = next h.kids (kids_skip w f h.kids (nth q) at_nth v);
+    are = kids_skip w f h.kids q h.are v;
     shuffled = IsPermutation-trans _ _ _ h.shuffled s;
     light = let l = h.light in let e = few_next in omega arith;
   }
   another (Some e) v s = record {
     kids = e ∷ h.kids;
-    are = next (e ∷ h.kids) (kids_push w f h.kids (nth q) at_nth e v.0 v.1 (subst (λ (r : Square). Touches r w) (sym v.0) v.2));
+    are = kids_push w f h.kids q h.are e v.0 v.1 (subst (λ (r : Square). Touches r w) (sym v.0) v.2);
     shuffled = IsPermutation-trans _ _ _ (IsPermutation-cons e _ _ h.shuffled) s;
     light =
         let l = h.light in
         let n = few_next in
-        let i : count (tree e) ≡ count (sub q (tree f)) = ap count (v.1 ∙ sym (sub_nth q f lt)) in
+        let i : count (tree e) ≡ count (sub (index q) (tree f)) = ap count (v.1 ∙ sym (sub_index q f)) in
         let c = sum_by-cons (λ (x : Node). count (tree x)) e h.kids in
         omega arith;
   }
 
   -- there is room for one more
-  pub room_left : (o : Option Node) → Looked w (quadrant (nth q) f.square) (child f (nth q)) o → is_some o ≡ true → (room : ℕ) → count (tree f) + weight before ≤ room → length mid < room
-  room_left None v e room fits = let z : ◌≡◌ {A = ℕ} 0 1 = cc in absurd (omega arith)
-  room_left (Some e) v _ room fits =
+  pub room_left : (e : Node) → Looked w (quadrant q f.square) (child f q) (Some e) → (room : ℕ) → count (tree f) + weight before ≤ room → length mid < room
+  room_left e v room fits =
       let l = h.light in
-      let n = few_less f q lt in
-      let i : count (tree e) ≡ count (sub q (tree f)) = ap count (v.1 ∙ sym (sub_nth q f lt)) in
+      let n = few_less f q in
+      let i : count (tree e) ≡ count (sub (index q) (tree f)) = ap count (v.1 ∙ sym (sub_index q f)) in
       let s = sum_by-IsPermutation (λ (x : Node). count (tree x)) (h.kids ++ before) mid h.shuffled in
       let a = sum_by-append (λ (x : Node). count (tree x)) h.kids before in
       let b = long_weight mid in
       omega arith
 
-pub some_noded : {G : Type 0} (code : G → ℕ) (t : Tree) (o : Option (Entry G)) → is_some o ≡ true → is_some (noded code t o) ≡ true
-some_noded code t None e = e
-some_noded code t (Some x) e = refl
+-- the same, of the entries: q is the quadrant with the index i, and found what stands there
+module _ {G : Type 0} (code : G → ℕ) (t : Tree) (w : Window) (top : Entry G) (before mid : List (Entry G)) (i : ℕ) (q : Quadrant) (e : index q ≡ i)
+    (h : Opening w (node code t top) i (nodes code t before) (nodes code t mid))
+    (found : Option (Entry G)) (v : Looked w (quadrant q (square_of top.square)) (child (node code t top) q) (noded code t found)) where
+  at_index : Opening w (node code t top) (index q) (nodes code t before) (nodes code t mid)
+  at_index = subst (λ (n : ℕ). Opening w (node code t top) n (nodes code t before) (nodes code t mid)) (sym e) h
+
+  pub comes_in : (after : List (Entry G)) → IsPermutation (with found mid) after → Opening w (node code t top) (i + 1) (nodes code t before) (nodes code t after)
+  comes_in after s =
+      subst (λ (n : ℕ). Opening w (node code t top) (n + 1) (nodes code t before) (nodes code t after)) e
+      (another w (node code t top) q _ _ _ at_index (noded code t found) v
+      (subst (λ (x : List Node). IsPermutation x (nodes code t after)) (nodes_with code t found mid) (shuffled_map (node code t) _ _ s)))
+
+  pub has_room : (room : ℕ) → count (tree (node code t top)) + weight (nodes code t before) ≤ room → is_some found ≡ true → length mid < room
+  has_room room fits some = go found v some
+    where
+      go : (o : Option (Entry G)) → Looked w (quadrant q (square_of top.square)) (child (node code t top) q) (noded code t o) → is_some o ≡ true → length mid < room
+      go None l z = let y : ◌≡◌ {A = ℕ} 0 1 = cc in absurd (omega arith)
+      go (Some x) l z =
+          let r = room_left w (node code t top) q _ _ (nodes code t mid) at_index (node code t x) l room fits in
+          let n = length-map mid (node code t) in omega arith
 
 pub opened : (w : Window) (f : Node) (before after : List Node) (n : ℕ) → n ≡ 4 → Opening w f n before after → Opened w f before after
 opened w f before after n e h = record {

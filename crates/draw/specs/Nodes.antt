@@ -1,26 +1,19 @@
 -- The boxes that the entries of a queue stand for, and what is told of a box by looking at it.
 --
---   nth q             the quadrant with the number q
 --   Upright w         the window is not turned round
 --   touching s w      the test whether the square and an upright window share a cell
 --   seeing w m        the test whether the mark lies in the window
 --   node code t e     the box that an entry stands for in the tree t; likewise noded of an entry that may be absent, nodes of a list
 --   Looked w r u o    o is the box u in the square r, if there is one and it touches the window
 --   weight l          how many boxes there are in and below those of the list
-use Rattle.std.specs.Prelude.{◌≡◌, ℕ, zero, suc, ◌+◌, ◌^◌, ◌≤◌, Bool, ◌&&◌, ◌⊎◌, List, map, Some, None, sum_by, Option, nat_le, nat_lt}
+use Rattle.std.specs.Prelude.{◌≡◌, ℕ, ◌+◌, ◌^◌, ◌≤◌, Bool, ◌&&◌, ◌⊎◌, List, map, Some, None, sum_by, Option, nat_le, nat_lt}
 use Rattle.treap.specs.Spots.{Spot}
-use Rattle.treap.specs.Trees.{Quadrant, tl, tr, bl, br, Square, Tree, none, sub, find, count}
+use Rattle.treap.specs.Trees.{Square, Tree, none, sub, find, count}
 use Rattle.treap.specs.Draws.{Window, Touches}
 use Rattle.treap.specs.Searches.{Node, tree}
 use Rattle.boxtree.specs.Marks.{spot_of}
 use Rattle.boxtree.specs.Squares.{square_of}
 use Rattle.draw.specs.declared.entry.Entry.{Entry}
-
-abbrev pub nth : ℕ → Quadrant
-nth zero = tl
-nth (suc zero) = tr
-nth (suc (suc zero)) = bl
-nth (suc (suc (suc q))) = br
 
 abbrev pub Upright : Window → Type 0
 Upright w = (w.top ≤ w.bottom) × (w.left ≤ w.right)

@@ -12,7 +12,7 @@ use grade::Grade;
 use queue::Ranked;
 
 /// A box that waits to be opened: its number, its square and its mark.
-#[derive(Clone, Copy)]
+#[derive(Clone, Copy, PartialEq, Eq, Debug)]
 pub struct Entry<G> {
     pub number: u32,
     pub square: Square,

@@ -3,10 +3,9 @@
 
 pub mod drawn;
 pub mod entry;
-mod look;
-mod open;
 pub mod refusal;
 mod search;
+mod view;
 
 pub use drawn::Drawn;
 pub use entry::Entry;

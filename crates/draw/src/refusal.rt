@@ -1,8 +1,11 @@
 //! Why a draw is turned down.
-ghost use Rattle.std.specs.Prelude.{◌≡◌};
+ghost use Rattle.std.proofs.Common.{rules};
 ghost use Rattle.draw.specs.Refusals.{refusal_number};
 
-#[derive(Clone, Copy)]
+use refusals::Refusal;
+
+/// Why a draw is turned down.
+#[derive(Clone, Copy, PartialEq, Eq, Debug)]
 pub enum DrawRefusal {
     /// The window's top is above its bottom as numbers, or its left above its right.
     Window,
@@ -12,11 +15,12 @@ pub enum DrawRefusal {
     Queue,
 }
 
-impl DrawRefusal {
-    /// The number of the refusal.
-    pub fn number(self) -> u8
-        ensures { result ≡ refusal_number self }
-    {
+impl Refusal for DrawRefusal {
+    ghost numbered = { refusal_number };
+
+    ghost listed = { Prim.search rules };
+
+    fn number(self) -> u8 {
         match self {
             DrawRefusal::Window => 19,
             DrawRefusal::List => 20,

@@ -1,20 +1,16 @@
 //! The best marks of a window.
 ghost use Rattle.std.specs.Prelude.{◌≡◌, ℕ, ◌<◌, ◌≤◌, [], map, length, take, drop, ◌==◌};
-ghost use Rattle.treap.specs.Trees.{Lawful};
 ghost use Rattle.treap.specs.Draws.{Draws};
-ghost use Rattle.queue.specs.Held.{Sound, held, room};
+ghost use Rattle.queue.specs.Waiting.{room};
 ghost use Rattle.boxtree.specs.Marks.{spot_of};
 ghost use Rattle.boxtree.specs.Squares.{window_of};
-ghost use Rattle.draw.specs.Nodes.{Upright};
-ghost use Rattle.draw.specs.Ranked.{ranked};
 ghost use Rattle.draw.specs.Opened.{Enlisted};
 ghost use Rattle.draw.specs.Answers.{Answered};
 
 use crate::drawn::Drawn;
 use crate::entry::Entry;
-use crate::look::{first, sees};
-use crate::open::{open, put};
 use crate::refusal::DrawRefusal;
+use crate::view::{View, put};
 use boxtree::mark::Mark;
 use boxtree::tree::BoxTree;
 use boxtree::window::Window;
@@ -22,11 +18,16 @@ use grade::Grade;
 use queue::Queue;
 
 // Lists the mark in the next place if it lies in the window, and answers how many are listed.
-fn enlist<G: Grade>(window: Window, mark: Mark<G>, list: &mut [Mark<G>], listed: usize) -> usize
+fn enlist<T: BoxTree>(
+    view: &View<'_, T>,
+    mark: Mark<T::G>,
+    list: &mut [Mark<T::G>],
+    listed: usize,
+) -> usize
     requires { listed < length list.old }
-    ensures { Enlisted G.Grade.coded (window_of window) mark listed list.old list.new result }
+    ensures { Enlisted T.G.Grade.coded view.now.window mark listed list.old list.new result }
 {
-    if !sees(window, mark) {
+    if !view.sees(mark) {
         return listed;
     }
     list[listed] = mark;
@@ -42,35 +43,29 @@ fn full<G: Grade>(list: &[Mark<G>], listed: usize) -> bool
 
 // The search, with a queue that holds nothing and has room for every box.
 fn search<T: BoxTree>(
-    tree: &T,
-    window: Window,
+    view: &View<'_, T>,
     waiting: &mut Queue<Entry<T::G>>,
     list: &mut [Mark<T::G>],
 ) -> Drawn
-    requires asked { T.BoxTree.sound tree.now }
-    requires upright { Upright (window_of window) }
-    requires lawful { Lawful T.G.Grade.kind (T.BoxTree.shown tree.now) }
-    requires small { (T.BoxTree.shown tree.now).ceiling ≤ 65535 }
-    requires sound { Sound (ranked T.G.Grade.kind T.G.Grade.coded) waiting.old }
-    requires empty { held waiting.old ≡ [] }
-    requires room { (T.BoxTree.shown tree.now).ceiling ≤ room waiting.old }
+    requires small { (T.BoxTree.shown view.now.tree).ceiling ≤ 65535 }
+    requires empty { waiting.old.held ≡ [] }
+    requires room { (T.BoxTree.shown view.now.tree).ceiling ≤ room waiting.old }
     requires places { 0 < length list.old }
-    ensures draws { Draws T.G.Grade.kind (T.BoxTree.shown tree.now).square (T.BoxTree.shown tree.now).tree (window_of window) (length list.old) (map (spot_of T.G.Grade.coded) (take result.listed list.new)) result.opened }
+    ensures draws { Draws T.G.Grade.kind (T.BoxTree.shown view.now.tree).square (T.BoxTree.shown view.now.tree).tree view.now.window (length list.old) (map (spot_of T.G.Grade.coded) (take result.listed list.new)) result.opened }
     ensures within { result.listed ≤ length list.old }
     ensures size { length list.new ≡ length list.old }
     ensures rest { drop result.listed list.new ≡ drop result.listed list.old }
 {
-    let found = first(tree, window);
-    put(waiting, found);
+    put(waiting, view.root());
     let mut listed = 0;
     let mut opened = 0;
     while let Some(top) = waiting.pop() {
         opened += 1;
-        listed = enlist(window, top.mark, list, listed);
+        listed = enlist(view, top.mark, list, listed);
         if full(list, listed) {
             return Drawn { listed, opened };
         }
-        open(tree, window, waiting, top);
+        view.open(top, waiting);
     }
     Drawn { listed, opened }
 }
@@ -86,18 +81,17 @@ pub fn draw<T: BoxTree>(
     queue: &mut [Entry<T::G>],
     list: &mut [Mark<T::G>],
 ) -> Result<Drawn, DrawRefusal>
-    requires { T.BoxTree.sound tree.now }
     ensures { Answered T.G.Grade.kind T.G.Grade.coded (T.BoxTree.shown tree.now) (window_of window) queue.old queue.new list.old list.new result }
 {
     if window.top > window.bottom || window.left > window.right {
         return Err(DrawRefusal::Window);
     }
-    if list.len() == 0 {
+    if list.is_empty() {
         return Err(DrawRefusal::List);
     }
-    if queue.len() < tree.ceiling() as usize {
+    if queue.len() < usize::from(tree.ceiling()) {
         return Err(DrawRefusal::Queue);
     }
     let mut waiting = Queue::new(queue);
-    Ok(search(tree, window, &mut waiting, list))
+    Ok(search(&View::new(tree, window), &mut waiting, list))
 }
