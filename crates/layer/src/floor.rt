@@ -35,8 +35,6 @@ impl<'a, T: BoxTree> Floor<'a, T> {
 impl<T: BoxTree> BoxTree for Floor<'_, T> {
     type G = T::G;
 
-    ghost sound = { λ f. T.BoxTree.sound f.below.now };
-
     ghost shown = { λ f. floored T.G.Grade.kind (T.G.Grade.coded f.least) (T.BoxTree.shown f.below.now) };
 
     fn square(&self) -> Square {

@@ -1,5 +1,6 @@
 //! A pile of floors and shifts, given when the program runs, over a box tree.
 ghost use Rattle.std.specs.Prelude.{◌≡◌, ◌<◌, length, None, slice_index_or};
+ghost use Rattle.std.proofs.Props.{props};
 ghost use Rattle.grade.specs.Kind.{codes};
 ghost use Rattle.treap.specs.Layers.{shift_refusal};
 ghost use Rattle.treap.specs.Piles.{piled, pile_refusal, stricter, through};
@@ -31,6 +32,7 @@ pub struct Pile<'a, T: BoxTree> {
     least: Option<T::G>,
     rows: u16,
     cols: u16,
+    ghost fits: { shift_refusal rows cols (T.BoxTree.shown below.now) ≡ None } by { Prim.hlevel props },
 }
 
 fn layer_at<G: Copy>(layers: &[Layer<G>], i: usize) -> Layer<G>
@@ -53,7 +55,6 @@ fn stricter_of<G: Grade>(least: Option<G>, g: G) -> Option<G>
 /// Whether the layers can be laid over the tree in their order: the first shift that would pass the edge where it is laid is
 /// refused.
 pub fn check_pile<T: BoxTree>(below: &T, layers: &[Layer<T::G>]) -> Result<(), PastEdge>
-    requires { T.BoxTree.sound below.now }
     ensures { shift_numbered result ≡ pile_refusal T.G.Grade.kind (layers_of T.G.Grade.coded layers.now) (T.BoxTree.shown below.now) }
 {
     let square = below.square();
@@ -78,8 +79,7 @@ impl<'a, T: BoxTree> Pile<'a, T> {
     /// The layers laid over the tree in their order. One step a layer, once; a question then costs what one floor and one shift
     /// cost, however many layers there are.
     pub fn over(below: &'a T, layers: &[Layer<T::G>]) -> Pile<'a, T>
-        requires sound { T.BoxTree.sound below.now }
-        requires unrefused { pile_refusal T.G.Grade.kind (layers_of T.G.Grade.coded layers.now) (T.BoxTree.shown below.now) ≡ None }
+        requires { pile_refusal T.G.Grade.kind (layers_of T.G.Grade.coded layers.now) (T.BoxTree.shown below.now) ≡ None }
         ensures below { result.below.now ≡ below.now }
         ensures fits { shift_refusal result.rows result.cols (T.BoxTree.shown below.now) ≡ None }
         ensures shows { through T.G.Grade.kind (sum_of T.G.Grade.coded result.least result.rows result.cols) (T.BoxTree.shown below.now) ≡ piled T.G.Grade.kind (layers_of T.G.Grade.coded layers.now) (T.BoxTree.shown below.now) }
@@ -111,8 +111,6 @@ impl<'a, T: BoxTree> Pile<'a, T> {
 
 impl<T: BoxTree> BoxTree for Pile<'_, T> {
     type G = T::G;
-
-    ghost sound = { λ p. T.BoxTree.sound p.below.now × (shift_refusal p.rows p.cols (T.BoxTree.shown p.below.now) ≡ None) };
 
     ghost shown = { λ p. through T.G.Grade.kind (sum_of T.G.Grade.coded p.least p.rows p.cols) (T.BoxTree.shown p.below.now) };
 

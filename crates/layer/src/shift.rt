@@ -1,5 +1,6 @@
 //! A box tree moved over the grid.
 ghost use Rattle.std.specs.Prelude.{◌≡◌, ◌+◌, ◌<◌, ◌≤◌, None};
+ghost use Rattle.std.proofs.Props.{props};
 ghost use Rattle.treap.specs.Layers.{shifted, moved_spot, moved_square, past_edge, shift_refusal};
 ghost use Rattle.layer.specs.Refusals.{shift_numbered};
 ghost use Rattle.boxtree.specs.Marks.{spot_of};
@@ -18,6 +19,7 @@ pub struct Shift<'a, T: BoxTree> {
     below: &'a T,
     rows: u16,
     cols: u16,
+    ghost fits: { shift_refusal rows cols (T.BoxTree.shown below.now) ≡ None } by { Prim.hlevel props },
 }
 
 // Whether a row or a column of the square, moved `rows` rows down and `cols` columns to the right, would pass 65,535.
@@ -31,7 +33,6 @@ pub(crate) fn past_edge(square: Square, rows: u32, cols: u32) -> bool
 
 /// Whether the tree can be shifted so far.
 pub fn check_shift<T: BoxTree>(below: &T, rows: u16, cols: u16) -> Result<(), PastEdge>
-    requires { T.BoxTree.sound below.now }
     ensures { shift_numbered result ≡ shift_refusal rows cols (T.BoxTree.shown below.now) }
 {
     if past_edge(below.square(), rows as u32, cols as u32) {
@@ -79,8 +80,6 @@ fn moved_mark<G: Grade>(mark: Mark<G>, rows: u16, cols: u16) -> Mark<G>
 
 impl<T: BoxTree> BoxTree for Shift<'_, T> {
     type G = T::G;
-
-    ghost sound = { λ f. T.BoxTree.sound f.below.now × (shift_refusal f.rows f.cols (T.BoxTree.shown f.below.now) ≡ None) };
 
     ghost shown = { λ f. shifted f.rows f.cols (T.BoxTree.shown f.below.now) };
 

@@ -16,7 +16,7 @@ overflow_add-down g c =
     let v = c.in-Shift in
     let inside =
     shift_within g.T.G.Grade.kind g.T.G.Grade.coded c.args.layers.now m l.i l.down l.along y.result c.loop-i-test.true y.ensures
-    v.rows v.cols v.is c.requires.unrefused l.invariant.0 in
+    v.rows v.cols v.is c.requires l.invariant.0 in
     omega (arith, (within _ _ m inside).0)
 
 pub overflow_add-along : goal.overflow_add-along
@@ -27,7 +27,7 @@ overflow_add-along g c =
     let v = c.in-Shift in
     let inside =
     shift_within g.T.G.Grade.kind g.T.G.Grade.coded c.args.layers.now m l.i l.down l.along y.result c.loop-i-test.true y.ensures
-    v.rows v.cols v.is c.requires.unrefused l.invariant.0 in
+    v.rows v.cols v.is c.requires l.invariant.0 in
     omega (arith, (within _ _ m inside).1)
 
 pub loop-i-preserved : goal.loop-i-preserved
@@ -47,12 +47,22 @@ loop-i-preserved g c =
       | in-Shift w ↦
           let inside =
           shift_within k code layers m l.i l.down l.along y.result c.loop-i-test.true y.ensures w.in-Shift.rows w.in-Shift.cols w.in-Shift.is
-          c.requires.unrefused l.invariant.0 in
+          c.requires l.invariant.0 in
           rw (w.least-is, w.down-is, w.along-is) (
             shift_moved k code layers m l.i l.down l.along y.result c.loop-i-test.true y.ensures w.in-Shift.rows w.in-Shift.cols w.in-Shift.is inside l.invariant.0,
             shift_summed k code layers m l.i l.down l.along y.result c.loop-i-test.true y.ensures w.in-Shift.rows w.in-Shift.cols w.in-Shift.is l.least l.invariant.1,
           )
     ]
+
+pub invariant_of-result : goal.invariant_of-result
+invariant_of-result g c =
+    let k = g.T.G.Grade.kind in
+    let code = g.T.G.Grade.coded in
+    let layers = c.args.layers.now in
+    let m = g.T.BoxTree.shown c.args.below.now in
+    let l = c.loop-i in
+    let e = all_summed k code layers m l.i l.least l.down l.along c.loop-i-test.false l.invariant.1 in
+    record { fits = (as_summed k g.met.T.G.Grade.laws (layers_of code layers) m c.square.ensures.lawful c.requires (sum_of code l.least l.down l.along) e).0 }
 
 pub returns : goal.returns
 returns g c =
@@ -62,5 +72,5 @@ returns g c =
     let m = g.T.BoxTree.shown c.args.below.now in
     let l = c.loop-i in
     let e = all_summed k code layers m l.i l.least l.down l.along c.loop-i-test.false l.invariant.1 in
-    let s = as_summed k g.met.T.G.Grade.laws (layers_of code layers) m c.square.ensures.lawful c.requires.unrefused (sum_of code l.least l.down l.along) e in
+    let s = as_summed k g.met.T.G.Grade.laws (layers_of code layers) m c.square.ensures.lawful c.requires (sum_of code l.least l.down l.along) e in
     record { below = refl; fits = s.0; shows = s.1 }

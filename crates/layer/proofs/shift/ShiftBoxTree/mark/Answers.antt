@@ -13,14 +13,14 @@ returns-in_err-m g c =
     let m = c.in_err-m.ensures in
     record {
       is = rw (p.1, shift_absent s.rows s.cols t c.args.b _ m.is);
-      lawful = shifted_lawful s.rows s.cols g.T.G.Grade.kind _ m.lawful c.requires.1;
+      lawful = shifted_lawful s.rows s.cols g.T.G.Grade.kind _ m.lawful s.fits;
     }
 
 pub moved_mark-requires : goal.moved_mark-requires
 moved_mark-requires g c =
     let s = c.args.self.now in
     let m = c.in_ok-m.ensures in
-    let f = shift_fits s.rows s.cols (g.T.BoxTree.shown s.below.now) c.requires.1 in
+    let f = shift_fits s.rows s.cols (g.T.BoxTree.shown s.below.now) s.fits in
     let w = inside m.lawful c.args.b m.is in
     (omega (arith, w.not_below), omega (arith, w.not_right))
 
@@ -31,5 +31,5 @@ returns g c =
     let m = c.in_ok-m.ensures in
     record {
       is = ap Ok c.moved_mark.ensures ∙ shift_mark s.rows s.cols t c.args.b m.is;
-      lawful = shifted_lawful s.rows s.cols g.T.G.Grade.kind _ m.lawful c.requires.1;
+      lawful = shifted_lawful s.rows s.cols g.T.G.Grade.kind _ m.lawful s.fits;
     }
