@@ -1,7 +1,7 @@
 -- Layers laid one after another: how a pile's refusal and its sum go over to the layers that are left.
-use Rattle.std.proofs.Common.{◌≡◌, ℕ, ◌+◌, ◌^◌, ◌<◌, ◌≤◌, Bool, true, false, ◌||◌, ltb, List, [], ◌∷◌, length, get_or, drop, Some, None, Option, sym, refl, ap, ◌∙◌, arith, pow_pos}
+use Rattle.std.proofs.Common.{◌≡◌, ℕ, ◌+◌, ◌^◌, ◌<◌, ◌≤◌, List, [], ◌∷◌, length, get_or, drop, None, Option, sym, refl, ap, ◌∙◌, arith, pow_pos}
 use Rattle.std.proofs.lemmas.List.{drop_more, drop_all}
-use Rattle.grade.specs.Kind.{Kind, Laws, codes}
+use Rattle.grade.specs.Kind.{Kind, Laws}
 use Rattle.treap.specs.Trees.{Square, none, Meaning, Lawful}
 use Rattle.treap.specs.Layers.{moved_square, floored, shifted, shift_refusal}
 use Rattle.treap.specs.Sums.{either}

@@ -1,5 +1,5 @@
 -- What the layers answer, from what is answered below.
-use Rattle.std.proofs.Common.{◌≡◌, ℕ, Bool, true, false, cond, is_some, eqb, ltb, Some, None, Ok, Err, Option, Result, sym, refl, ap, ◌∙◌, arith}
+use Rattle.std.proofs.Common.{◌≡◌, ℕ, Bool, true, false, cond, is_some, ltb, Some, None, Ok, Err, Option, Result, sym, refl, ap, ◌∙◌, arith}
 use Rattle.std.specs.Prelude.{MatchOption, IsTrue}
 use Rattle.std.specs.Bool.{then_some}
 use Rattle.std.specs.Option.{ok_or}
@@ -8,15 +8,16 @@ use Rattle.grade.specs.Kind.{Kind, Laws, codes}
 use Rattle.boxtree.specs.declared.mark.Mark.{Mark}
 use Rattle.boxtree.specs.declared.refusal.Absent.{Absent}
 use Rattle.treap.specs.Spots.{Spot}
-use Rattle.treap.specs.Trees.{Square, Tree, none, box, number, or, sub, find, Meaning, Lawful}
+use Rattle.treap.specs.Trees.{Tree, none, box, number, sub, find, Meaning, Lawful}
 use Rattle.treap.specs.Layers.{kept, floor, moved, moved_spot}
 use Rattle.treap.specs.Piles.{under}
 use Rattle.boxtree.specs.Marks.{spot_of}
 use Rattle.boxtree.specs.Answers.{absent, child_of, mark_of, spotted}
-use Rattle.treap.proofs.Find.{find_root, find_sub, ordered_find}
+use Rattle.treap.proofs.Find.{find_sub, ordered_find}
 use Rattle.treap.proofs.Meanings.{floored_lawful, sub_moved, number_moved, find_moved, sub_floor, find_floor}
 use Rattle.boxtree.proofs.Replies.{mark_err, child_number}
 
+-- The answers under a shift.
 module _ (r c : ℕ) where
   child_moved : (q : ℕ) (t : Tree) → child_of q (moved r c t) ≡ child_of q t
   child_moved q none = refl
@@ -102,10 +103,6 @@ module _ {k : Kind} {m : Meaning} (laws : Laws k) (h : Lawful k m) where
   under_lawful None = h
   under_lawful (Some g) = floored_lawful k laws g m h
 
-  whole : (o : Option ℕ) → (under k o m).tree ≡ sift k o m.tree
-  whole None = refl
-  whole (Some g) = refl
-
   seen : (o : Option ℕ) (b : ℕ) → find b (under k o m).tree ≡ sift k o (find b m.tree)
   seen None b = refl
   seen (Some g) b = find_floor k laws g b m.square m.tree h.ordered h.apart
@@ -148,15 +145,11 @@ module _ {k : Kind} {m : Meaning} (laws : Laws k) (h : Lawful k m) where
         boxed none = refl
         boxed (box i x a b c d) = refl
 
-    pub left_root : (n : ℕ) → Some n ≡ number m.tree → (r : Result (Mark G) Absent) → spotted code r ≡ mark_of (find n (under k (codes code o) m).tree) → then_some (is_ok r) n ≡ number (under k (codes code o) m).tree
-    left_root n e r i =
-        left_number n m.tree (find_root n m.tree (sym e)) (sym e) r i ∙ ap number (sym (whole (codes code o)))
-
-    -- where the floor leaves no box b, it has no child
+    -- where the floor does not leave the box b, no child is answered
     pub no_box : (b q : ℕ) (e : Absent) → Err e ≡ mark_of (find b (under k (codes code o) m).tree) → Err e ≡ child_of q (find b (under k (codes code o) m).tree)
     no_box b q e i = rw (mark_err (find b (under k (codes code o) m).tree) e i) refl
 
-    -- and where it leaves it
+    -- and where it leaves the box b
     module _ (b q : ℕ) (x : Mark G) (i : Ok (spot_of code x) ≡ mark_of (find b m.tree)) (p : MatchOption o (IsTrue true) (λ g. true ≡ k.above (code x.grade) (code g))) where
       answer : {r : Result (Option ℕ) Absent} → r ≡ child_of q (find b m.tree) → answered (sift k (codes code o) (sub q (find b m.tree))) r ≡ child_of q (find b (under k (codes code o) m).tree)
       answer j =

@@ -22,7 +22,8 @@ impl Offset {
         ensures { result ≡ past_edge self.rows self.cols (square_of square) }
     {
         let side = 1u32 << square.level;
-        square.top as u32 + self.rows as u32 + side > 65536 || square.left as u32 + self.cols as u32 + side > 65536
+        square.top as u32 + self.rows as u32 + side > 65536
+            || square.left as u32 + self.cols as u32 + side > 65536
     }
 
     // The square, moved so far.

@@ -25,8 +25,8 @@ invariant_of-result g c =
     let l = c.loop-layer in
     record {
       fits =
-        (laid g.T.G.Grade.kind g.T.G.Grade.coded c.args.layers.now (g.T.BoxTree.shown c.args.below.now) g.met.T.G.Grade.laws c.square.ensures.lawful c.requires
-        l.layer-index l.least l.offset.rows l.offset.cols l.invariant c.loop-layer-test.false).0;
+          (laid g.T.G.Grade.kind g.T.G.Grade.coded c.args.layers.now (g.T.BoxTree.shown c.args.below.now) g.met.T.G.Grade.laws c.square.ensures.lawful c.requires
+          l.layer-index l.least l.offset.rows l.offset.cols l.invariant c.loop-layer-test.false).0;
     }
 
 pub returns-clause-shows : goal.returns-clause-shows
