@@ -31,7 +31,7 @@ pub enum Layer<G> {
 pub struct Pile<'a, T: BoxTree> {
     sieve: Sieve<'a, T>,
     offset: Offset,
-    ghost fits: { shift_refusal offset.rows offset.cols (T.BoxTree.shown sieve.below.now) ≡ None } by { Prim.hlevel props },
+    pub ghost fits: { shift_refusal offset.rows offset.cols (T.BoxTree.shown sieve.below.now) ≡ None } by { Prim.hlevel props },
 }
 
 // The stricter of a floor that may be absent and one at `g`.

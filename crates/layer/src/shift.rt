@@ -16,7 +16,7 @@ use boxtree::tree::BoxTree;
 pub struct Shift<'a, T: BoxTree> {
     below: &'a T,
     offset: Offset,
-    ghost fits: { shift_refusal offset.rows offset.cols (T.BoxTree.shown below.now) ≡ None } by { Prim.hlevel props },
+    pub ghost fits: { shift_refusal offset.rows offset.cols (T.BoxTree.shown below.now) ≡ None } by { Prim.hlevel props },
 }
 
 /// Whether the tree can be shifted so far.
