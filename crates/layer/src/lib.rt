@@ -2,6 +2,8 @@
 #![tactic(auto)]
 
 pub mod floor;
+mod offset;
 pub mod pile;
 pub mod refusal;
 pub mod shift;
+mod sieve;

@@ -1,23 +1,27 @@
 //! A tally of draws.
 ghost use Rattle.std.specs.Prelude.{◌≡◌};
+ghost use Rattle.std.proofs.Common.{rules};
 ghost use Rattle.tally.specs.Tallies.{blank, full_number, numbered, note_refusal, noted};
 
+use refusals::Refusal;
+
 /// How many draws were accepted, and how many boxes these opened.
-#[derive(Clone, Copy)]
+#[derive(Clone, Copy, PartialEq, Eq, Debug)]
 pub struct Tally {
     draws: u32,
     opened: u32,
 }
 
 /// A number of the tally would pass 4,294,967,295.
-#[derive(Clone, Copy)]
+#[derive(Clone, Copy, PartialEq, Eq, Debug)]
 pub struct TallyFull;
 
-impl TallyFull {
-    /// The number of the refusal.
-    pub fn number(self) -> u8
-        ensures { result ≡ full_number self }
-    {
+impl Refusal for TallyFull {
+    ghost numbered = { full_number };
+
+    ghost listed = { Prim.search rules };
+
+    fn number(self) -> u8 {
         23
     }
 }
@@ -52,14 +56,10 @@ impl Tally {
         ensures answer { numbered result ≡ note_refusal self.old opened }
         ensures tally { self.new ≡ noted self.old opened }
     {
-        let before = *self;
-        let Some(draws) = before.draws.checked_add(1) else {
-            return Err(TallyFull);
+        *self = Tally {
+            draws: self.draws.checked_add(1).ok_or(TallyFull)?,
+            opened: self.opened.checked_add(opened).ok_or(TallyFull)?,
         };
-        let Some(opened) = before.opened.checked_add(opened) else {
-            return Err(TallyFull);
-        };
-        *self = Tally { draws, opened };
         Ok(())
     }
 }

@@ -6,4 +6,4 @@ use Rattle.layer.proofs.shift.check_shift.Goals as goal
 pub past_edge-requires : goal.past_edge-requires
 past_edge-requires g c =
     let e = ap (λ (s : Square). s.level) c.square.ensures.is in
-    (omega (arith, level_small c.square.ensures.lawful), omega arith, omega arith)
+    omega (arith, level_small c.square.ensures.lawful)
