@@ -9,7 +9,7 @@ use boxtree::square::Square;
 use grade::Grade;
 
 /// So many rows further down and so many columns further to the right.
-#[derive(Clone, Copy)]
+#[derive(Clone, Copy, PartialEq, Eq, Debug)]
 pub(crate) struct Offset {
     pub(crate) rows: u16,
     pub(crate) cols: u16,
@@ -22,8 +22,8 @@ impl Offset {
         ensures { result ≡ past_edge self.rows self.cols (square_of square) }
     {
         let side = 1u32 << square.level;
-        square.top as u32 + self.rows as u32 + side > 65536
-            || square.left as u32 + self.cols as u32 + side > 65536
+        u32::from(square.top) + u32::from(self.rows) + side > 65536
+            || u32::from(square.left) + u32::from(self.cols) + side > 65536
     }
 
     // The square, moved so far.
