@@ -1,5 +1,5 @@
 -- What the tree of a plan has under a number: the box of that place, or none where there are not so many.
-use Rattle.std.proofs.Common.{◌≡◌, ℕ, zero, suc, ◌<◌, ◌≤◌, List, Some, None, Ok, Option, sym, refl, ap, ◌∙◌, inl, inr, arith, le-ltb, lt-ltb}
+use Rattle.std.proofs.Common.{◌≡◌, ℕ, zero, suc, List, Some, None, Ok, Option, sym, refl, ap, ◌∙◌, inl, inr, arith, true, false, ltb}
 use Rattle.grade.specs.Kind.{Kind}
 use Rattle.treap.specs.Spots.{Spot}
 use Rattle.treap.specs.Trees.{Quadrant, tl, tr, bl, br, index, Square, quadrant, Tree, none, box, pick, number, sub, find, Hangs, Ordered}
@@ -12,9 +12,10 @@ use Rattle.treap.proofs.Find.{Found, found}
 use Rattle.treap.proofs.Held.{unheld_none, none_unheld}
 use Rattle.boxtree.specs.Answers.{child_of, mark_of}
 use Rattle.plan.specs.declared.place.Place.{Place}
-use Rattle.plan.specs.Places.{Cell, cells, link, tree_at}
+use Rattle.plan.specs.Places.{Cell, cell_of, cells, link, tree_at}
 use Rattle.plan.specs.Standing.{tree_in}
 use Rattle.plan.specs.Plans.{root, plan_tree, Shape}
+use Rattle.plan.specs.Boxes.{BoxRead}
 use Rattle.plan.proofs.Descent.{level_below}
 
 number_at : (l : ℕ) (at : ℕ → Cell) (o : Option ℕ) → number (tree_at l at o) ≡ o
@@ -50,30 +51,24 @@ module _ (at : ℕ → Cell) where
   child_is r b bl = ap Ok (number_at r.level at (at b).c)
   child_is r b br = ap Ok (number_at r.level at (at b).d)
 
-module _ {G : Type 0} (kind : Kind) (code : G → ℕ) (h n : ℕ) (ps : List (Place G)) (s : Shape kind code h n ps) (b : ℕ) where
-  pub box_past : n ≤ b → find b (plan_tree code h n ps) ≡ none
-  box_past high = unheld_none b (plan_tree code h n ps) (s.numbered b ∙ ap one_if (le-ltb b n high))
+module _ {G : Type 0} {kind : Kind} {code : G → ℕ} {h n : ℕ} {ps : List (Place G)} (s : Shape kind code h n ps) (b : ℕ) where
+  pub box_past : ltb b n ≡ false → find b (plan_tree code h n ps) ≡ none
+  box_past high = unheld_none b (plan_tree code h n ps) (s.numbered b ∙ ap one_if high)
 
-  module _ (low : b < n) (p : Cell) (ep : cells code ps b ≡ p) where
+  module _ (low : ltb b n ≡ true) where
     box_is : (r : Square) × (find b (plan_tree code h n ps) ≡ tree_in r (cells code ps) (Some b))
     box_is = go (found (plan_square h) b (plan_tree code h n ps))
       where
         go : Found (plan_square h) b (plan_tree code h n ps) (find b (plan_tree code h n ps)) → (r : Square) × (find b (plan_tree code h n ps) ≡ tree_in r (cells code ps) (Some b))
-        go (inl e) = absurd (omega (arith, none_unheld b (plan_tree code h n ps) e, s.numbered b, ap one_if (lt-ltb b n low)))
+        go (inl e) = absurd (omega (arith, none_unheld b (plan_tree code h n ps) e, s.numbered b, ap one_if low))
         go (inr x) = (
           x.0,
           part_is (cells code ps) kind x.1 s.ordered (ap (tree_in (plan_square h) (cells code ps)) (sym (number_at (suc h) (cells code ps) (root n))))
               ∙ ap (tree_in x.0 (cells code ps)) x.2,
         )
 
-    pub box_mark : Ok p.mark ≡ mark_of (find b (plan_tree code h n ps))
-    box_mark = sym (ap mark_of box_is.1 ∙ ap (λ (c : Cell). Ok c.mark) ep)
-
-    pub box_child : (q : ℕ) (x : Quadrant) → q ≡ index x → Ok (link x p) ≡ child_of q (find b (plan_tree code h n ps))
-    box_child q x e =
-        sym (
-        ap (child_of q) box_is.1
-        ∙ ap (λ (y : ℕ). child_of y (tree_in box_is.0 (cells code ps) (Some b))) e
-        ∙ child_is (cells code ps) box_is.0 b x
-        ∙ ap (λ (c : Cell). Ok (link x c)) ep
-        )
+    pub box_read : (p : Place G) → cells code ps b ≡ cell_of code p → BoxRead code (find b (plan_tree code h n ps)) (Ok p)
+    box_read p e = (
+      sym (ap mark_of box_is.1 ∙ ap (λ (c : Cell). Ok c.mark) e),
+      λ q. sym (ap (child_of (index q)) box_is.1 ∙ child_is (cells code ps) box_is.0 b q ∙ ap (λ (c : Cell). Ok (link q c)) e),
+    )

@@ -8,6 +8,7 @@ use Rattle.treap.specs.Sums.{one_if, held}
 use Rattle.treap.proofs.Shown.{lawful_quadrant, halves}
 use Rattle.treap.proofs.Counts.{one_is}
 use Rattle.treap.proofs.Hanging.{hung, pick_numbers, alone_quadrant}
+use Rattle.boxtree.specs.Squares.{Divided}
 use Rattle.plan.specs.Squares.{Fits}
 use Rattle.plan.specs.Places.{Cell, Below, link, relink, tree_at}
 use Rattle.plan.specs.Standing.{tree_in, Stands}
@@ -40,9 +41,6 @@ level_below tr s pos = suc_pred s.level pos
 level_below bl s pos = suc_pred s.level pos
 level_below br s pos = suc_pred s.level pos
 
-pub part_falls : (q : Quadrant) (s u : Square) → 0 < s.level → u ≡ quadrant q s → u.level < s.level
-part_falls q s u pos e = omega (arith, level_below q s pos, ap (λ (x : Square). x.level) e)
-
 -- the tree of a quadrant
 pub part_at : (s : Square) (at : ℕ → Cell) (p : Cell) (q : Quadrant)
     → 0 < s.level
@@ -63,8 +61,12 @@ fits_below s tr pos f = fits_part s.level s.top s.left _ _ f.level (halves s.lev
 fits_below s bl pos f = fits_part s.level s.top s.left _ _ f.level (halves s.level pos) f.rows f.cols (omega arith) (omega arith)
 fits_below s br pos f = fits_part s.level s.top s.left _ _ f.level (halves s.level pos) f.rows f.cols (omega arith) (omega arith)
 
+-- a square of a plan that has quadrants lies on the grid
+pub divided : (s : Square) → 0 < s.level → Fits s → Divided s
+divided s deep f = record { deep = deep; rows = omega (arith, f.rows); cols = omega (arith, f.cols) }
+
 -- a tree that stands in places, with its root in the place i
-module _ (k : Kind) (s : Square) (bound : ℕ) (at : ℕ → Cell) (i : ℕ) (st : Stands k s bound (tree_in s at (Some i))) where
+module _ {k : Kind} {s : Square} {bound : ℕ} (at : ℕ → Cell) (i : ℕ) (st : Stands k s bound (tree_in s at (Some i))) where
   pub root_below : i < bound
   root_below = let no' : bound ≤ i → ⊥ = λ h. omega (arith, st.under i h, one_is i i refl) in omega arith
 
@@ -75,17 +77,11 @@ module _ (k : Kind) (s : Square) (bound : ℕ) (at : ℕ → Cell) (i : ℕ) (st
     child_held : (n : ℕ) → one_if (eqb n i) + held n child ≤ held n (tree_in s at (Some i))
     child_held n = pick_numbers (λ j. one_if (eqb n j)) i (at i).mark _ _ _ _ q
 
-    child_stands : Stands k (quadrant q s) bound child
-    child_stands =
-        record {
-          ordered = lawful_quadrant k s i (at i).mark _ _ _ _ st.ordered q;
-          alone = alone_quadrant i (at i).mark _ _ _ _ st.alone q;
-          single = λ n. omega (arith, st.single n, child_held n);
-          under = λ n h. omega (arith, st.under n h, child_held n);
-        }
+    child_under : (n : ℕ) → bound ≤ n → held n child ≡ 0
+    child_under n h = omega (arith, st.under n h, child_held n)
 
     pub link_below : Below bound (link q (at i))
-    link_below = go (link q (at i)) s.level (λ n h. subst (λ (u : Tree). held n u ≡ 0) (pick_at s.level at (at i) q) (child_stands.under n h))
+    link_below = go (link q (at i)) s.level (λ n h. subst (λ (u : Tree). held n u ≡ 0) (pick_at s.level at (at i) q) (child_under n h))
       where
         go : (o : Option ℕ) (l : ℕ) → ((n : ℕ) → bound ≤ n → held n (tree_at l at o) ≡ 0) → Below bound o
         go None l u = tt
@@ -93,9 +89,9 @@ module _ (k : Kind) (s : Square) (bound : ℕ) (at : ℕ → Cell) (i : ℕ) (st
         go (Some j) (suc l) u = let no' : bound ≤ j → ⊥ = λ h. omega (arith, u j h, one_is j j refl) in omega arith
 
     -- the square u of the quadrant, and the place o of its root
-    module _ (pos : 0 < s.level) (u : Square) (eu : u ≡ quadrant q s) (o : Option ℕ) (eo : o ≡ link q (at i)) where
-      pub down_fits : Fits s → Fits u
-      down_fits fits = rw eu (fits_below s q pos fits)
+    module _ (pos : 0 < s.level) {u : Square} (eu : u ≡ quadrant q s) {o : Option ℕ} (eo : o ≡ link q (at i)) where
+      pub down_falls : u.level < s.level
+      down_falls = omega (arith, level_below q s pos, ap (λ (x : Square). x.level) eu)
 
       pub down_is : child ≡ tree_in u at o
       down_is = rw (eu, eo) (part_at s at (at i) q pos)
@@ -104,7 +100,18 @@ module _ (k : Kind) (s : Square) (bound : ℕ) (at : ℕ → Cell) (i : ℕ) (st
       down_link = sym (pick_at s.level at (at i) q) ∙ down_is
 
       pub down_stands : Stands k u bound (tree_in u at o)
-      down_stands = rw eu (subst (Stands k (quadrant q s) bound) (rw eu at down_is) child_stands)
+      down_stands = rw eu (subst (Stands k (quadrant q s) bound) (rw eu at down_is) there)
+        where
+          there : Stands k (quadrant q s) bound child
+          there =
+              record {
+                fits = fits_below s q pos st.fits;
+                few = st.few;
+                ordered = lawful_quadrant k s i (at i).mark _ _ _ _ st.ordered q;
+                alone = alone_quadrant i (at i).mark _ _ _ _ st.alone q;
+                single = λ n. omega (arith, st.single n, child_held n);
+                under = child_under;
+              }
 
       pub down_held : (n : ℕ) → one_if (eqb n i) + held n (tree_in u at o) ≤ held n (tree_in s at (Some i))
       down_held n = subst (λ (t : Tree). one_if (eqb n i) + held n t ≤ held n (tree_in s at (Some i))) down_is (child_held n)
@@ -162,13 +169,15 @@ module _ (l fresh i : ℕ) (j : Option ℕ) (at bt ct : ℕ → Cell) (w : Spot)
       let pd = becomes new e z in
       ap (λ (c : Cell). box i c.mark (tree_at l ct c.a) (tree_at l ct c.b) (tree_at l ct c.c) (tree_at l ct c.d)) put ∙ cc (pa, pb, pc, pd)
 
-pub at_place : (k : Kind) (s : Square) (bound : ℕ) (at : ℕ → Cell) (root : Option ℕ) (i : ℕ) → root ≡ Some i → Stands k s bound (tree_in s at root) → Stands k s bound (tree_in s at (Some i))
-at_place k s bound at root i is st = subst (λ (o : Option ℕ). Stands k s bound (tree_in s at o)) is st
+-- the root is in the place i
+module _ {k : Kind} {s : Square} {bound : ℕ} (at : ℕ → Cell) {root : Option ℕ} (stands : Stands k s bound (tree_in s at root)) {i : ℕ} (is : root ≡ Some i) where
+  pub at_place : Stands k s bound (tree_in s at (Some i))
+  at_place = subst (λ (o : Option ℕ). Stands k s bound (tree_in s at o)) is stands
 
-pub in_places : (k : Kind) (s : Square) (bound : ℕ) (at : ℕ → Cell) (root : Option ℕ) (i : ℕ) → root ≡ Some i → Stands k s bound (tree_in s at root) → i < bound
-in_places k s bound at root i is st = root_below k s bound at i (at_place k s bound at root i is st)
+  pub in_places : i < bound
+  in_places = root_below at i at_place
 
 -- a place below the number of places fits a link
-pub below_limit : (bound : ℕ) (o : Option ℕ) → bound ≤ 65535 → Below bound o → Below 65535 o
-below_limit bound None few h = tt
-below_limit bound (Some i) few h = omega arith
+pub below_limit : {bound : ℕ} (o : Option ℕ) → bound ≤ 65535 → Below bound o → Below 65535 o
+below_limit None few h = tt
+below_limit (Some i) few h = omega arith

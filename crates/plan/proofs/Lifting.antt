@@ -12,11 +12,11 @@ use Rattle.treap.proofs.Counts.{one_is, at_cell_is, is_at_cell}
 use Rattle.treap.proofs.Cells.{alone_lone}
 use Rattle.treap.proofs.Hanging.{hung}
 use Rattle.treap.proofs.Changes.{root_or_below, shows_in_quadrant, level_above, cut_below, pull_up, pull_last}
-use Rattle.plan.specs.Squares.{Fits}
+use Rattle.boxtree.specs.Squares.{Divided}
 use Rattle.plan.specs.Places.{Cell, Below, link, relink, tree_at}
 use Rattle.plan.specs.Standing.{tree_in, Stands, Linked, Lifted}
 use Rattle.plan.specs.Children.{Choice, Best}
-use Rattle.plan.proofs.Descent.{pick_at, part_at, link_below, down_fits, down_is, down_link, down_stands, down_held, down_depth, down_below, graft}
+use Rattle.plan.proofs.Descent.{pick_at, part_at, divided, link_below, down_falls, down_is, down_link, down_stands, down_held, down_depth, down_below, graft, at_place, below_limit}
 
 -- a link that leads on leads to a place below the bound
 below_root : (bound : ℕ) (r o : Option ℕ) → Below bound o → (r ≡ None) ⊎ (r ≡ o) → Below bound r
@@ -24,12 +24,12 @@ below_root bound r o h (inl e) = subst (Below bound) (sym e) tt
 below_root bound r o h (inr e) = subst (Below bound) (sym e) h
 
 -- the tree whose root is in the place i, which is p
-module _ (k : Kind) (L : Laws k) (s : Square) (bound : ℕ) (at : ℕ → Cell) (i : ℕ) (p : Cell) (ep : at i ≡ p) (st : Stands k s bound (tree_in s at (Some i))) where
+module _ {k : Kind} (L : Laws k) {s : Square} {bound : ℕ} (at : ℕ → Cell) (i : ℕ) (st : Stands k s bound (tree_in s at (Some i))) {p : Cell} (ep : at i ≡ p) where
   abbrev quarter_of : Quadrant → Tree
   quarter_of q = pick (tree_at s.level at (at i).a) (tree_at s.level at (at i).b) (tree_at s.level at (at i).c) (tree_at s.level at (at i).d) q
 
   pub linked : Linked bound p
-  linked q = subst (λ (c : Cell). Below bound (link q c)) ep (link_below k s bound at i st q)
+  linked q = subst (λ (c : Cell). Below bound (link q c)) ep (link_below at i st q)
 
   -- no box is left below: the root's place is free
   pub pull_none : Best k at p None → Lifted k s (at i).mark at (Some i) at None i
@@ -54,7 +54,7 @@ module _ (k : Kind) (L : Laws k) (s : Square) (bound : ℕ) (at : ℕ → Cell) 
     link_is : link c.quadrant (at i) ≡ Some c.place
     link_is = ap (link c.quadrant) ep ∙ best.0.linked
 
-    pub pull_deep : 0 < s.level
+    pull_deep : 0 < s.level
     pull_deep =
         go s.level
         (subst (Hangs k s (at i).mark) (pick_at s.level at (at i) c.quadrant ∙ ap (tree_at s.level at) link_is) (hangs k s i (at i).mark _ _ _ _ st.ordered c.quadrant))
@@ -63,18 +63,21 @@ module _ (k : Kind) (L : Laws k) (s : Square) (bound : ℕ) (at : ℕ → Cell) 
         go zero h = h.0
         go (suc l) h = h.0
 
-    module _ (u : Square) (eu : u ≡ quadrant c.quadrant s) where
-      stands_there : Stands k u bound (tree_in u at (Some c.place))
-      stands_there = down_stands k s bound at i st c.quadrant pull_deep u eu (Some c.place) (sym link_is)
+    pub pull_divided : Divided s
+    pull_divided = divided s pull_deep st.fits
 
-      pub pull_asks : Fits s → Fits u × Stands k u bound (tree_in u at (Some c.place))
-      pull_asks fits = (down_fits k s bound at i st c.quadrant pull_deep u eu (Some c.place) (sym link_is) fits, stands_there)
+    module _ {u : Square} (eu : u ≡ quadrant c.quadrant s) where
+      stands_there : Stands k u bound (tree_in u at (Some c.place))
+      stands_there = down_stands at i st c.quadrant pull_deep eu (sym link_is)
+
+      pub pull_asks : (u.level < s.level) × Stands k u bound (tree_in u at (Some c.place))
+      pull_asks = (down_falls at i st c.quadrant pull_deep eu (sym link_is), stands_there)
 
       pick_is : quarter_of c.quadrant ≡ tree_in u at (Some c.place)
-      pick_is = down_is k s bound at i st c.quadrant pull_deep u eu (Some c.place) (sym link_is)
+      pick_is = down_is at i st c.quadrant pull_deep eu (sym link_is)
 
       held_part : (n : ℕ) → one_if (eqb n i) + held n (tree_in u at (Some c.place)) ≤ held n (tree_in s at (Some i))
-      held_part n = down_held k s bound at i st c.quadrant pull_deep u eu (Some c.place) (sym link_is) n
+      held_part n = down_held at i st c.quadrant pull_deep eu (sym link_is) n
 
       mark_is : (at c.place).mark ≡ c.mark
       mark_is = best.0.marked
@@ -92,7 +95,7 @@ module _ (k : Kind) (L : Laws k) (s : Square) (bound : ℕ) (at : ℕ → Cell) 
       over x j ne' e = go (tri k L (at j).mark c.mark)
         where
           there : Stands k (quadrant x s) bound (tree_in (quadrant x s) at (Some j))
-          there = down_stands k s bound at i st x pull_deep (quadrant x s) refl (Some j) (sym e)
+          there = down_stands at i st x pull_deep refl (sym e)
 
           apart : (at j).mark ≡ c.mark → ⊥
           apart same =
@@ -112,10 +115,9 @@ module _ (k : Kind) (L : Laws k) (s : Square) (bound : ℕ) (at : ℕ → Cell) 
           go None e = tt
           go (Some j) e = (pull_deep, over x j ne' e)
 
-      module _ (bt : ℕ → Cell) (r : Option ℕ) (g : ℕ) (lifted : Lifted k u (at c.place).mark at (Some c.place) bt r g) where
-        pub pull_link : Below bound r
-        pull_link =
-            below_root bound r (Some c.place) (down_below k s bound at i st c.quadrant pull_deep u eu (Some c.place) (sym link_is)) lifted.root
+      module _ {bt : ℕ → Cell} {r : Option ℕ} {g : ℕ} (lifted : Lifted k u (at c.place).mark at (Some c.place) bt r g) where
+        pub pull_link : Below 65535 r
+        pull_link = below_limit r st.few (below_root bound r (Some c.place) (down_below at i st c.quadrant pull_deep eu (sym link_is)) lifted.root)
 
         module _ (ct : ℕ → Cell) (put : ct i ≡ relink c.quadrant p c.mark r) (rest : (n : ℕ) → (n ≡ i → ⊥) → ct n ≡ bt n) where
           not_i : held i (tree_in u bt r) ≡ 0
@@ -124,8 +126,8 @@ module _ (k : Kind) (L : Laws k) (s : Square) (bound : ℕ) (at : ℕ → Cell) 
           tree : tree_in s ct (Some i) ≡ hung i c.mark (tree_at s.level at (at i).a) (tree_at s.level at (at i).b) (tree_at s.level at (at i).c) (tree_at s.level at (at i).d) c.quadrant (tree_in u bt r)
           tree =
               graft s.level bound i r at bt ct c.mark st.single (st.under bound (omega arith)) rest c.quadrant (tree_in u bt r)
-              (down_depth k s bound at i st c.quadrant pull_deep u eu (Some c.place) (sym link_is) bt r) not_i
-              (λ n z f. lifted.outside n (ap (held n) (sym (down_link k s bound at i st c.quadrant pull_deep u eu (Some c.place) (sym link_is))) ∙ z)) (put ∙ ap (λ (x : Cell). relink c.quadrant x c.mark r) (sym ep))
+              (down_depth at i st c.quadrant pull_deep eu (sym link_is) bt r) not_i
+              (λ n z f. lifted.outside n (ap (held n) (sym (down_link at i st c.quadrant pull_deep eu (sym link_is))) ∙ z)) (put ∙ ap (λ (x : Cell). relink c.quadrant x c.mark r) (sym ep))
 
           turned : (m : Spot) (new : Tree) → (at c.place).mark ≡ m → Loses k u (at c.place).mark g (tree_in u at (Some c.place)) new → Loses k (quadrant c.quadrant s) m g (quarter_of c.quadrant) new
           turned m new e l =
@@ -145,16 +147,16 @@ module _ (k : Kind) (L : Laws k) (s : Square) (bound : ℕ) (at : ℕ → Cell) 
               }
 
 -- a mark m that the tree shows, whose root is in the place i, which is p
-module _ (k : Kind) (L : Laws k) (s : Square) (bound : ℕ) (at : ℕ → Cell) (root : Option ℕ) (i : ℕ) (is : root ≡ Some i) (p : Cell) (ep : at i ≡ p)
-    (stands : Stands k s bound (tree_in s at root)) (m : Spot) (shows : Shows (tree_in s at root) m) where
+module _ {k : Kind} (L : Laws k) {s : Square} {bound : ℕ} (at : ℕ → Cell) {root : Option ℕ} (stands : Stands k s bound (tree_in s at root)) (m : Spot)
+    (shows : Shows (tree_in s at root) m) {i : ℕ} (is : root ≡ Some i) {p : Cell} (ep : at i ≡ p) where
   st : Stands k s bound (tree_in s at (Some i))
-  st = subst (λ (o : Option ℕ). Stands k s bound (tree_in s at o)) is stands
+  st = at_place at stands is
 
   here : Shows (tree_in s at (Some i)) m
   here = subst (λ (o : Option ℕ). Shows (tree_in s at o) m) is shows
 
-  pub lift_here : at_cell m.row m.col p.mark ≡ true → (bt : ℕ → Cell) (r : Option ℕ) (g : ℕ) → Lifted k s (at i).mark at (Some i) bt r g → Lifted k s m at root bt r g
-  lift_here e bt r g l =
+  pub lift_here : at_cell m.row m.col p.mark ≡ true → {bt : ℕ → Cell} {r : Option ℕ} {g : ℕ} → Lifted k s (at i).mark at (Some i) bt r g → Lifted k s m at root bt r g
+  lift_here e {bt} {r} {g} l =
       subst (λ (o : Option ℕ). Lifted k s m at o bt r g) (sym is) (subst (λ (x : Spot). Lifted k s x at (Some i) bt r g) same l)
     where
       cell : (m.row ≡ (at i).mark.row) × (m.col ≡ (at i).mark.col)
@@ -171,13 +173,13 @@ module _ (k : Kind) (L : Laws k) (s : Square) (bound : ℕ) (at : ℕ → Cell) 
         ∙ is_at_cell m.row m.col (at i).mark (ap (λ (x : Spot). x.row) e) (ap (λ (x : Spot). x.col) e)
         )
 
-    pub lift_deep : 0 < s.level
+    lift_deep : 0 < s.level
     lift_deep = level_above k L s i (at i).mark _ _ _ _ st.ordered m here not_root
 
-    pub lift_inside : Within s m.row m.col
-    lift_inside = (shown_holds k s (tree_in s at (Some i)) st.ordered m here).inside
+    pub lift_divides : Divided s × Within s m.row m.col
+    lift_divides = (divided s lift_deep st.fits, (shown_holds k s (tree_in s at (Some i)) st.ordered m here).inside)
 
-    module _ (q : Quadrant) (within : Within (quadrant q s) m.row m.col) (u : Square) (eu : u ≡ quadrant q s) (o : Option ℕ) (eo : o ≡ link q p) where
+    module _ (q : Quadrant) (within : Within (quadrant q s) m.row m.col) {u : Square} (eu : u ≡ quadrant q s) {o : Option ℕ} (eo : o ≡ link q p) where
       eo' : o ≡ link q (at i)
       eo' = eo ∙ ap (link q) (sym ep)
 
@@ -186,25 +188,25 @@ module _ (k : Kind) (L : Laws k) (s : Square) (bound : ℕ) (at : ℕ → Cell) 
 
       part_is : quarter ≡ tree_in u at o
       unfolding quarter
-      part_is = down_is k s bound at i st q lift_deep u eu o eo'
+      part_is = down_is at i st q lift_deep eu eo'
 
       shown_there : Shows quarter m
       unfolding quarter
       shown_there = shows_in_quadrant k L s i (at i).mark _ _ _ _ st.ordered m here not_root q within
 
-      pub lift_asks : Fits s → Fits u × (Stands k u bound (tree_in u at o) × Shows (tree_in u at o) m)
-      lift_asks fits = (
-        down_fits k s bound at i st q lift_deep u eu o eo' fits,
-        (down_stands k s bound at i st q lift_deep u eu o eo', subst (λ (t : Tree). Shows t m) part_is shown_there),
+      pub lift_asks : (u.level < s.level) × (Stands k u bound (tree_in u at o) × Shows (tree_in u at o) m)
+      lift_asks = (
+        down_falls at i st q lift_deep eu eo',
+        (down_stands at i st q lift_deep eu eo', subst (λ (t : Tree). Shows t m) part_is shown_there),
       )
 
-      module _ (bt : ℕ → Cell) (r : Option ℕ) (g : ℕ) (lifted : Lifted k u m at o bt r g) where
-        pub lift_link : Below bound r
-        lift_link = below_root bound r o (down_below k s bound at i st q lift_deep u eu o eo') lifted.root
+      module _ {bt : ℕ → Cell} {r : Option ℕ} {g : ℕ} (lifted : Lifted k u m at o bt r g) where
+        pub lift_link : Below 65535 r
+        lift_link = below_limit r st.few (below_root bound r o (down_below at i st q lift_deep eu eo') lifted.root)
 
         module _ (ct : ℕ → Cell) (put : ct i ≡ relink q p p.mark r) (rest : (n : ℕ) → (n ≡ i → ⊥) → ct n ≡ bt n) where
           held_there : (n : ℕ) → one_if (eqb n i) + held n (tree_in u at o) ≤ held n (tree_in s at (Some i))
-          held_there n = down_held k s bound at i st q lift_deep u eu o eo' n
+          held_there n = down_held at i st q lift_deep eu eo' n
 
           no_root : held i (tree_in u bt r) ≡ 0
           no_root = omega (arith, lifted.loses.less.numbers (λ x. one_if (eqb i x)), held_there i, st.single i, one_is i i refl)
@@ -212,8 +214,8 @@ module _ (k : Kind) (L : Laws k) (s : Square) (bound : ℕ) (at : ℕ → Cell) 
           written : tree_in s ct (Some i) ≡ hung i (at i).mark (tree_at s.level at (at i).a) (tree_at s.level at (at i).b) (tree_at s.level at (at i).c) (tree_at s.level at (at i).d) q (tree_in u bt r)
           written =
               graft s.level bound i r at bt ct (at i).mark st.single (st.under bound (omega arith)) rest q (tree_in u bt r)
-              (down_depth k s bound at i st q lift_deep u eu o eo' bt r) no_root
-              (λ n z f. lifted.outside n (ap (held n) (sym (down_link k s bound at i st q lift_deep u eu o eo')) ∙ z))
+              (down_depth at i st q lift_deep eu eo' bt r) no_root
+              (λ n z f. lifted.outside n (ap (held n) (sym (down_link at i st q lift_deep eu eo')) ∙ z))
               (put ∙ ap (λ (x : Cell). relink q x x.mark r) (sym ep))
 
           moved : (new : Tree) → Loses k u m g (tree_in u at o) new → Loses k (quadrant q s) m g quarter new

@@ -9,10 +9,10 @@ use Rattle.treap.proofs.Shown.{hangs, lawful_quadrant, shown_holds, one_quadrant
 use Rattle.treap.proofs.Counts.{one_is, none_is}
 use Rattle.treap.proofs.Hanging.{hung}
 use Rattle.treap.proofs.Changes.{renumber_below}
-use Rattle.plan.specs.Squares.{Fits}
+use Rattle.boxtree.specs.Squares.{Divided}
 use Rattle.plan.specs.Places.{Cell, Below, link, relink, tree_at}
 use Rattle.plan.specs.Standing.{tree_in, Stands, Moves, Moved}
-use Rattle.plan.proofs.Descent.{tree_same, pick_at, level_below, down_fits, down_is, down_link, down_stands, down_held, down_depth, down_below, graft}
+use Rattle.plan.proofs.Descent.{tree_same, pick_at, level_below, divided, down_falls, down_is, down_link, down_stands, down_held, down_depth, down_below, graft, below_limit}
 
 -- a number that a box or one of its quadrants holds
 held_split : (n i : ℕ) (m : Spot) (a b c d : Tree) → 1 ≤ held n (box i m a b c d) → (n ≡ i) ⊎ ((q : Quadrant) × (1 ≤ held n (pick a b c d q)))
@@ -68,8 +68,8 @@ module _ (k : Kind) (at : ℕ → Cell) (n : ℕ) where
   held_mark s o h g = held_mark_at s.level s o refl h g
 
 -- the tree whose root is in the place i, which is p
-module _ (k : Kind) (L : Laws k) (s : Square) (bound : ℕ) (at : ℕ → Cell) (m : Spot) (from to : ℕ) (root : Option ℕ) (i : ℕ) (is : root ≡ Some i) (p : Cell) (ep : at i ≡ p)
-    (moves : Moves k s bound at m from to (tree_in s at root)) where
+module _ {k : Kind} (L : Laws k) {s : Square} {bound : ℕ} {at : ℕ → Cell} {m : Spot} {from to : ℕ} {root : Option ℕ} (moves : Moves k s bound at m from to (tree_in s at root))
+    {i : ℕ} (is : root ≡ Some i) {p : Cell} (ep : at i ≡ p) where
   h : Moves k s bound at m from to (tree_in s at (Some i))
   h = subst (λ (o : Option ℕ). Moves k s bound at m from to (tree_in s at o)) is moves
 
@@ -107,7 +107,7 @@ module _ (k : Kind) (L : Laws k) (s : Square) (bound : ℕ) (at : ℕ → Cell) 
     not_root : one_if (eqb from i) ≡ 0
     not_root = none_is from i (λ e. other (sym e))
 
-    pub move_deep : 0 < s.level
+    move_deep : 0 < s.level
     move_deep = go s.level refl
       where
         no_child : (q : Quadrant) → s.level ≡ 0 → held from (tree_at s.level at (link q (at i))) ≡ 0
@@ -129,17 +129,20 @@ module _ (k : Kind) (L : Laws k) (s : Square) (bound : ℕ) (at : ℕ → Cell) 
     inside_part q g =
         subst (λ (x : Spot). Within (quadrant q s) x.row x.col) (sym h.mark)
         (shown_holds k (quadrant q s) (tree_in (quadrant q s) at (link q (at i))) there.ordered (at from).mark
-        (held_mark k at from (quadrant q s) (link q (at i)) there.ordered (subst (λ (t : Tree). 1 ≤ held from t) (down_is k s bound at i h.stands q move_deep (quadrant q s) refl (link q (at i)) refl) g))).inside
+        (held_mark k at from (quadrant q s) (link q (at i)) there.ordered (subst (λ (t : Tree). 1 ≤ held from t) (down_is at i h.stands q move_deep refl refl) g))).inside
       where
         there : Stands k (quadrant q s) bound (tree_in (quadrant q s) at (link q (at i)))
-        there = down_stands k s bound at i h.stands q move_deep (quadrant q s) refl (link q (at i)) refl
+        there = down_stands at i h.stands q move_deep refl refl
 
-    pub move_inside : Within s m.row m.col
+    move_inside : Within s m.row m.col
     move_inside =
         subst (λ (x : Spot). Within s x.row x.col) (sym h.mark)
         (shown_holds k s (tree_in s at (Some i)) h.stands.ordered (at from).mark (held_mark k at from s (Some i) h.stands.ordered (omega (arith, h.held_once)))).inside
 
-    module _ (q : Quadrant) (within : Within (quadrant q s) m.row m.col) (u : Square) (eu : u ≡ quadrant q s) (o : Option ℕ) (eo : o ≡ link q p) where
+    pub move_divides : Divided s × Within s m.row m.col
+    move_divides = (divided s move_deep h.stands.fits, move_inside)
+
+    module _ (q : Quadrant) (within : Within (quadrant q s) m.row m.col) {u : Square} (eu : u ≡ quadrant q s) {o : Option ℕ} (eo : o ≡ link q p) where
       eo' : o ≡ link q (at i)
       eo' = eo ∙ ap (link q) (sym ep)
 
@@ -160,16 +163,16 @@ module _ (k : Kind) (L : Laws k) (s : Square) (bound : ℕ) (at : ℕ → Cell) 
           go br f = omega (arith, h.held_once, not_root, f tl (λ e. omega arith), f tr (λ e. omega arith), f bl (λ e. omega arith))
 
       part_is : part_of q ≡ tree_in u at o
-      part_is = down_is k s bound at i h.stands q move_deep u eu o eo'
+      part_is = down_is at i h.stands q move_deep eu eo'
 
       held_part : (n : ℕ) → one_if (eqb n i) + held n (tree_in u at o) ≤ held n (tree_in s at (Some i))
-      held_part n = down_held k s bound at i h.stands q move_deep u eu o eo' n
+      held_part n = down_held at i h.stands q move_deep eu eo' n
 
-      pub move_asks : Fits s → Fits u × Moves k u bound at m from to (tree_in u at o)
-      move_asks fits = (
-        down_fits k s bound at i h.stands q move_deep u eu o eo' fits,
+      pub move_asks : (u.level < s.level) × Moves k u bound at m from to (tree_in u at o)
+      move_asks = (
+        down_falls at i h.stands q move_deep eu eo',
         record {
-          stands = down_stands k s bound at i h.stands q move_deep u eu o eo';
+          stands = down_stands at i h.stands q move_deep eu eo';
           held_once = ap (held from) (sym part_is) ∙ once;
           unused = omega (arith, h.unused, held_part to);
           room = h.room;
@@ -177,13 +180,13 @@ module _ (k : Kind) (L : Laws k) (s : Square) (bound : ℕ) (at : ℕ → Cell) 
         },
       )
 
-      module _ (bt : ℕ → Cell) (r : Option ℕ) (moved : Moved k u from to at o bt r) where
-        pub move_link : Below bound r
-        move_link = go moved.root
+      module _ {bt : ℕ → Cell} {r : Option ℕ} (moved : Moved k u from to at o bt r) where
+        pub move_link : Below 65535 r
+        move_link = below_limit r h.stands.few (go moved.root)
           where
             go : ((o ≡ Some from) × (r ≡ Some to)) ⊎ ((o ≡ Some from → ⊥) × (r ≡ o)) → Below bound r
             go (inl e) = subst (Below bound) (sym e.1) h.room
-            go (inr e) = subst (Below bound) (sym e.1) (down_below k s bound at i h.stands q move_deep u eu o eo')
+            go (inr e) = subst (Below bound) (sym e.1) (down_below at i h.stands q move_deep eu eo')
 
         module _ (ct : ℕ → Cell) (put : ct i ≡ relink q p p.mark r) (rest : (n : ℕ) → (n ≡ i → ⊥) → ct n ≡ bt n) where
           not_to : one_if (eqb i to) ≡ 0
@@ -195,8 +198,8 @@ module _ (k : Kind) (L : Laws k) (s : Square) (bound : ℕ) (at : ℕ → Cell) 
           written : tree_in s ct (Some i) ≡ hung i (at i).mark (tree_at s.level at (at i).a) (tree_at s.level at (at i).b) (tree_at s.level at (at i).c) (tree_at s.level at (at i).d) q (tree_in u bt r)
           written =
               graft s.level to i r at bt ct (at i).mark h.stands.single h.unused rest q (tree_in u bt r)
-              (down_depth k s bound at i h.stands q move_deep u eu o eo' bt r) no_root
-              (λ n z f. moved.outside n (ap (held n) (sym (down_link k s bound at i h.stands q move_deep u eu o eo')) ∙ z) f)
+              (down_depth at i h.stands q move_deep eu eo' bt r) no_root
+              (λ n z f. moved.outside n (ap (held n) (sym (down_link at i h.stands q move_deep eu eo')) ∙ z) f)
               (put ∙ ap (λ (x : Cell). relink q x x.mark r) (sym ep))
 
           turned : (new : Tree) → Renumbers k u from to (tree_in u at o) new → Renumbers k (quadrant q s) from to (part_of q) new

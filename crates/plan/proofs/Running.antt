@@ -1,15 +1,16 @@
 -- A run of calls, one call at a time.
-use Rattle.std.proofs.Common.{◌≡◌, ℕ, ◌+◌, ◌<◌, min, List, [], ◌∷◌, ◌++◌, map, length, get_or, take, drop, set, Some, None, sym, refl, ap, ◌∙◌, subst, arith, drop-drop, drop-set-lt}
+use Rattle.std.proofs.Common.{◌≡◌, ℕ, ◌+◌, ◌<◌, ◌≤◌, min, List, [], ◌∷◌, ◌++◌, map, length, get_or, take, drop, set, Some, None, Result, sym, refl, ap, ◌∙◌, subst, arith, drop-drop, drop-set-lt}
 use mathlib.Core.List.{map-append}
 use Rattle.std.proofs.lemmas.List.{take_more, take_more_set}
 use Rattle.grade.specs.Kind.{Kind, Laws}
 use Rattle.treap.specs.Plants.{plant}
 use Rattle.treap.specs.Entries.{plan_square}
 use Rattle.treap.specs.Ledgers as ledgers
-use Rattle.plan.specs.declared.plan.Plan.{Plan}
+use Rattle.plan.specs.declared.place.Place.{Place}
 use Rattle.plan.specs.declared.run.Call.{Call}
 use Rattle.plan.specs.declared.run.Answer.{Answer}
-use Rattle.plan.specs.Plans.{Sound, ledger}
+use Rattle.plan.specs.declared.refusal.PlanRefusal.{PlanRefusal}
+use Rattle.plan.specs.Plans.{Layout, Sound, ledger}
 use Rattle.plan.specs.Runs.{call_of, answer_of, carried, Ran}
 use Rattle.plan.proofs.Shapes.{recorded, lawful}
 
@@ -39,40 +40,33 @@ after_level l (c ∷ cs) = after_level (ledgers.next l c) cs ∙ same c
     same c = elim (ledgers.refusal l c) as (λ o. (ledgers.next_as l c o).level ≡ l.level) [ None ↦ changed_level c | Some n ↦ refl ]
 
 -- the first i calls are carried out
-pub record Running {G : Type 0} (kind : Kind) (code : G → ℕ) (l : ledgers.Ledger) (calls : List (Call G)) (before : List (Answer G)) (i : ℕ) (p : Plan G) (answers : List (Answer G)) : Type 0 where
-  pub sound : Sound kind code p
+pub record Running {G : Type 0} (code : G → ℕ) (l : ledgers.Ledger) (calls : List (Call G)) (before : List (Result (Answer G) PlanRefusal)) (i : ℕ) (p : Layout (Place G)) (answers : List (Result (Answer G) PlanRefusal)) : Type 0 where
+  pub within : i ≤ length calls
   pub followed : ledger code p ≡ ledgers.after l (map (call_of code) (take i calls))
   pub answered : map (answer_of code) (take i answers) ≡ ledgers.answers l (map (call_of code) (take i calls))
   pub beyond : drop i answers ≡ drop i before
 
-module _ {G : Type 0} (kind : Kind) (code : G → ℕ) (l : ledgers.Ledger) (calls : List (Call G)) (before : List (Answer G)) where
-  pub none_yet : (p : Plan G) → Sound kind code p → ledger code p ≡ l → Running kind code l calls before 0 p before
-  none_yet p s e = record { sound = s; followed = e; answered = refl; beyond = refl }
-
-  pub one_more_call : (i : ℕ) (p q : Plan G) (answers : List (Answer G)) (c : Call G) (a : Answer G)
-      → Running kind code l calls before i p answers
+module _ {G : Type 0} (code : G → ℕ) (l : ledgers.Ledger) (calls : List (Call G)) (before : List (Result (Answer G) PlanRefusal)) where
+  pub one_more_call : (i : ℕ) (p q : Layout (Place G)) (answers : List (Result (Answer G) PlanRefusal)) (c : Call G) (a : Result (Answer G) PlanRefusal)
+      → Running code l calls before i p answers
       → i < length calls
       → c ≡ get_or calls i c
       → i < length answers
-      → Sound kind code q
       → answer_of code a ≡ ledgers.answer (ledger code p) (call_of code c)
       → ledger code q ≡ ledgers.next (ledger code p) (call_of code c)
-      → (news : List (Answer G))
-      → news ≡ set answers i a
-      → Running kind code l calls before (i + 1) q news
-  one_more_call i p q answers c a r low read high s ea el news en =
+      → Running code l calls before (i + 1) q (set answers i a)
+  one_more_call i p q answers c a r low read high ea el =
       record {
-        sound = s;
+        within = omega arith;
         followed = el ∙ ap (λ (x : ledgers.Ledger). ledgers.next x (call_of code c)) r.followed ∙ sym (after_push l (map (call_of code) (take i calls)) (call_of code c)) ∙ ap (ledgers.after l) (sym grown);
         answered =
-            ap (λ (x : List (Answer G)). map (answer_of code) (take (i + 1) x)) en
-            ∙ ap (map (answer_of code)) (take_more_set answers i a high)
+            ap (map (answer_of code)) (take_more_set answers i a high)
             ∙ map-append (answer_of code) (take i answers) (a ∷ [])
             ∙ ap (λ (x : List ledgers.Answer). x ++ answer_of code a ∷ []) r.answered
             ∙ ap (λ (x : ledgers.Answer). ledgers.answers l (map (call_of code) (take i calls)) ++ x ∷ []) (ea ∙ ap (λ (x : ledgers.Ledger). ledgers.answer x (call_of code c)) r.followed)
             ∙ sym (answers_push l (map (call_of code) (take i calls)) (call_of code c))
             ∙ ap (ledgers.answers l) (sym grown);
-        beyond = ap (drop (i + 1)) en ∙ drop-set-lt (i + 1) answers i a (omega arith) ∙ drop_next answers before i r.beyond;
+        beyond = drop-set-lt (i + 1) answers i a (omega arith) ∙ drop_next answers before i r.beyond;
       }
     where
       grown : map (call_of code) (take (i + 1) calls) ≡ map (call_of code) (take i calls) ++ call_of code c ∷ []
@@ -81,19 +75,19 @@ module _ {G : Type 0} (kind : Kind) (code : G → ℕ) (l : ledgers.Ledger) (cal
           ∙ map-append (call_of code) (take i calls) (get_or calls i c ∷ [])
           ∙ ap (λ (x : Call G). map (call_of code) (take i calls) ++ call_of code x ∷ []) (sym read)
 
-  pub ran_all : Laws kind → (n : ℕ) (p : Plan G) (answers : List (Answer G)) → n ≡ min (length calls) (length before) → Running kind code l calls before n p answers → Ran kind code l calls before answers p
-  ran_all laws n p answers e r₀ =
+  pub ran_all : {kind : Kind} → Laws kind → (n : ℕ) (p : Layout (Place G)) (answers : List (Result (Answer G) PlanRefusal)) → Sound kind code p → n ≡ min (length calls) (length before) → Running code l calls before n p answers → Ran kind code l calls before answers p
+  ran_all {kind} laws n p answers s e r₀ =
       record {
-        sound = r.sound;
+        sound = s;
         followed = r.followed;
         answered = r.answered;
         beyond = r.beyond;
-        lawful = lawful kind code _ _ _ r.sound;
+        lawful = lawful s;
         planted =
-            (recorded kind code _ _ _ r.sound laws).planted
+            (recorded s laws).planted
             ∙ ap (λ (x : ledgers.Ledger). plant kind (plan_square x.level) (ledgers.entries x)) r.followed
             ∙ ap (λ (x : ℕ). plant kind (plan_square x) (ledgers.entries (ledgers.after l (carried code calls (length before))))) (after_level l (carried code calls (length before)));
       }
     where
-      r : Running kind code l calls before (min (length calls) (length before)) p answers
-      r = subst (λ (x : ℕ). Running kind code l calls before x p answers) e r₀
+      r : Running code l calls before (min (length calls) (length before)) p answers
+      r = subst (λ (x : ℕ). Running code l calls before x p answers) e r₀

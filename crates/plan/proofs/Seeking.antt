@@ -9,16 +9,16 @@ use Rattle.treap.proofs.Shown.{below}
 use Rattle.treap.proofs.Counts.{at_cell_is, is_at_cell}
 use Rattle.treap.proofs.Cells.{cell_in_quadrant}
 use Rattle.treap.proofs.Hanging.{one_cell}
-use Rattle.plan.specs.Squares.{Fits}
+use Rattle.boxtree.specs.Squares.{Divided}
 use Rattle.plan.specs.Places.{Cell, link, tree_at}
 use Rattle.plan.specs.Standing.{tree_in, Stands, Found}
-use Rattle.plan.proofs.Descent.{down_fits, down_is, down_stands}
+use Rattle.plan.proofs.Descent.{divided, down_falls, down_is, down_stands, at_place}
 
 -- going down from the root in the place i, which is p
-module _ (k : Kind) (s : Square) (bound row col : ℕ) (inside : Within s row col) (at : ℕ → Cell) (root : Option ℕ) (i : ℕ) (is : root ≡ Some i) (p : Cell) (ep : at i ≡ p)
-    (stands : Stands k s bound (tree_in s at root)) where
+module _ {k : Kind} {s : Square} {bound row col : ℕ} (inside : Within s row col) (at : ℕ → Cell) {root : Option ℕ} (stands : Stands k s bound (tree_in s at root))
+    {i : ℕ} (is : root ≡ Some i) {p : Cell} (ep : at i ≡ p) where
   st : Stands k s bound (tree_in s at (Some i))
-  st = subst (λ (o : Option ℕ). Stands k s bound (tree_in s at o)) is stands
+  st = at_place at stands is
 
   mark_is : (at i).mark ≡ p.mark
   mark_is = ap (λ (c : Cell). c.mark) ep
@@ -33,7 +33,7 @@ module _ (k : Kind) (s : Square) (bound row col : ℕ) (inside : Within s row co
     not_here : at_cell row col (at i).mark ≡ false
     not_here = ap (at_cell row col) mark_is ∙ other
 
-    pub seek_deep : 0 < s.level
+    seek_deep : 0 < s.level
     seek_deep = go s.level refl
       where
         go : (l : ℕ) → s.level ≡ l → 0 < l
@@ -42,15 +42,18 @@ module _ (k : Kind) (s : Square) (bound row col : ℕ) (inside : Within s row co
             let w = one_cell s row col _ _ inside st.ordered.0.inside e in
             absurd (false≢true (sym not_here ∙ is_at_cell row col (at i).mark w.0 w.1))
 
-    module _ (q : Quadrant) (within : Within (quadrant q s) row col) (u : Square) (eu : u ≡ quadrant q s) (o : Option ℕ) (eo : o ≡ link q p) where
+    pub seek_divided : Divided s
+    seek_divided = divided s seek_deep st.fits
+
+    module _ (q : Quadrant) (within : Within (quadrant q s) row col) {u : Square} (eu : u ≡ quadrant q s) {o : Option ℕ} (eo : o ≡ link q p) where
       eo' : o ≡ link q (at i)
       eo' = eo ∙ ap (link q) (sym ep)
 
-      pub seek_asks : Fits s → Fits u × (Within u row col × Stands k u bound (tree_in u at o))
-      seek_asks fits = (down_fits k s bound at i st q seek_deep u eu o eo' fits, (rw eu within, down_stands k s bound at i st q seek_deep u eu o eo'))
+      pub seek_asks : (u.level < s.level) × (Within u row col × Stands k u bound (tree_in u at o))
+      seek_asks = (down_falls at i st q seek_deep eu eo', (rw eu within, down_stands at i st q seek_deep eu eo'))
 
       same : pick (tree_at s.level at (at i).a) (tree_at s.level at (at i).b) (tree_at s.level at (at i).c) (tree_at s.level at (at i).d) q ≡ tree_in u at o
-      same = down_is k s bound at i st q seek_deep u eu o eo'
+      same = down_is at i st q seek_deep eu eo'
 
       go_down : (r : Option Spot) → Found row col (tree_in u at o) r → Found row col (tree_in s at (Some i)) r
       go_down None e =

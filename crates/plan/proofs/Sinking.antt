@@ -8,19 +8,19 @@ use Rattle.treap.specs.Changes.{Gains, Ranked}
 use Rattle.treap.proofs.Counts.{one_is, none_is}
 use Rattle.treap.proofs.Hanging.{hung}
 use Rattle.treap.proofs.Changes.{room_below, down_inside, free_below, sink_below, sink_first}
-use Rattle.plan.specs.Squares.{Fits}
+use Rattle.boxtree.specs.Squares.{Divided}
 use Rattle.plan.specs.Places.{Cell, Below, leaf_of, link, relink, tree_at}
 use Rattle.plan.specs.Standing.{tree_in, Sinks, Sunk, place_or}
-use Rattle.plan.proofs.Descent.{down_fits, down_is, down_link, down_stands, down_held, down_depth, down_below, graft}
+use Rattle.plan.proofs.Descent.{divided, down_falls, down_is, down_link, down_stands, down_held, down_depth, down_below, graft}
 
 -- into an empty tree
-pub sunk_first : (k : Kind) (s : Square) (bound : ℕ) (m : Spot) (fresh : ℕ) (at bt : ℕ → Cell) (root : Option ℕ)
-    → root ≡ None
+pub sunk_first : {k : Kind} {s : Square} {bound : ℕ} {m : Spot} {fresh : ℕ} (at bt : ℕ → Cell) {root : Option ℕ}
     → Sinks k s bound m fresh (tree_in s at root)
+    → root ≡ None
     → bt fresh ≡ leaf_of m
     → ((n : ℕ) → (n ≡ fresh → ⊥) → bt n ≡ at n)
     → Sunk k s m fresh at root bt fresh
-sunk_first k s bound m fresh at bt root is h put rest =
+sunk_first {k} {s} {bound} {m} {fresh} at bt h is put rest =
     subst (λ (o : Option ℕ). Sunk k s m fresh at o bt fresh) (sym is)
     (record {
       gains = subst (Gains k s m fresh none) (sym tree) (sink_first k s m fresh h.holds);
@@ -32,38 +32,38 @@ sunk_first k s bound m fresh at bt root is h put rest =
     tree = ap (λ (c : Cell). box fresh c.mark (tree_at s.level bt c.a) (tree_at s.level bt c.b) (tree_at s.level bt c.c) (tree_at s.level bt c.d)) put
 
 -- into the tree whose root is in the place i, which is p
-module _ (k : Kind) (L : Laws k) (s : Square) (bound : ℕ) (m : Spot) (fresh : ℕ) (at : ℕ → Cell) (root : Option ℕ) (i : ℕ) (is : root ≡ Some i) (p : Cell) (ep : at i ≡ p)
-    (sinks : Sinks k s bound m fresh (tree_in s at root)) (up down : Spot) (ranked : Ranked k m p.mark up down) where
+module _ {k : Kind} (L : Laws k) {s : Square} {bound : ℕ} {m : Spot} {fresh : ℕ} (at : ℕ → Cell) {root : Option ℕ} (sinks : Sinks k s bound m fresh (tree_in s at root))
+    {i : ℕ} (is : root ≡ Some i) {p : Cell} (ep : at i ≡ p) {up down : Spot} (ranked : Ranked k m p.mark up down) where
   h : Sinks k s bound m fresh (tree_in s at (Some i))
   h = subst (λ (o : Option ℕ). Sinks k s bound m fresh (tree_in s at o)) is sinks
 
   ranked' : Ranked k m (at i).mark up down
   ranked' = subst (λ (c : Cell). Ranked k m c.mark up down) (sym ep) ranked
 
-  pub sink_deep : 0 < s.level
+  sink_deep : 0 < s.level
   sink_deep = room_below k L s i (at i).mark _ _ _ _ h.stands.ordered m h.holds h.stands.alone h.free
 
   down_holds : Holds k s down
   down_holds = down_inside k L s i (at i).mark _ _ _ _ h.stands.ordered m h.holds h.stands.alone h.free up down ranked'
 
-  pub sink_inside : Within s down.row down.col
-  sink_inside = down_holds.inside
+  pub sink_divides : Divided s × Within s down.row down.col
+  sink_divides = (divided s sink_deep h.stands.fits, down_holds.inside)
 
-  module _ (q : Quadrant) (within : Within (quadrant q s) down.row down.col) (u : Square) (eu : u ≡ quadrant q s) (o : Option ℕ) (eo : o ≡ link q p) where
+  module _ (q : Quadrant) (within : Within (quadrant q s) down.row down.col) {u : Square} (eu : u ≡ quadrant q s) {o : Option ℕ} (eo : o ≡ link q p) where
     eo' : o ≡ link q (at i)
     eo' = eo ∙ ap (link q) (sym ep)
 
     pick_is : pick (tree_at s.level at (at i).a) (tree_at s.level at (at i).b) (tree_at s.level at (at i).c) (tree_at s.level at (at i).d) q ≡ tree_in u at o
-    pick_is = down_is k s bound at i h.stands q sink_deep u eu o eo'
+    pick_is = down_is at i h.stands q sink_deep eu eo'
 
     held_part : (n : ℕ) → one_if (eqb n i) + held n (tree_in u at o) ≤ held n (tree_in s at (Some i))
-    held_part n = down_held k s bound at i h.stands q sink_deep u eu o eo' n
+    held_part n = down_held at i h.stands q sink_deep eu eo' n
 
-    pub sink_asks : Fits s → Fits u × Sinks k u bound down fresh (tree_in u at o)
-    sink_asks fits = (
-      down_fits k s bound at i h.stands q sink_deep u eu o eo' fits,
+    pub sink_asks : (u.level < s.level) × Sinks k u bound down fresh (tree_in u at o)
+    sink_asks = (
+      down_falls at i h.stands q sink_deep eu eo',
       record {
-        stands = down_stands k s bound at i h.stands q sink_deep u eu o eo';
+        stands = down_stands at i h.stands q sink_deep eu eo';
         holds = record { fair = down_holds.fair; inside = rw eu within };
         free = ap (in_cell down.row down.col) (sym pick_is) ∙ free_below k L s i (at i).mark _ _ _ _ h.stands.ordered m h.holds h.stands.alone h.free up down ranked' q;
         unused = omega (arith, h.unused, held_part fresh);
@@ -71,9 +71,9 @@ module _ (k : Kind) (L : Laws k) (s : Square) (bound : ℕ) (m : Spot) (fresh : 
       },
     )
 
-    module _ (bt : ℕ → Cell) (j : ℕ) (sunk : Sunk k u down fresh at o bt j) where
-      pub sink_link : j < bound
-      sink_link = go o sunk.root (down_below k s bound at i h.stands q sink_deep u eu o eo')
+    module _ {bt : ℕ → Cell} {j : ℕ} (sunk : Sunk k u down fresh at o bt j) where
+      pub sink_link : j < 65535
+      sink_link = let low : j < bound = go o sunk.root (down_below at i h.stands q sink_deep eu eo') in omega (arith, h.stands.few)
         where
           go : (x : Option ℕ) → j ≡ place_or fresh x → Below bound x → j < bound
           go None e w = omega (arith, h.room)
@@ -89,8 +89,8 @@ module _ (k : Kind) (L : Laws k) (s : Square) (bound : ℕ) (m : Spot) (fresh : 
         tree : tree_in s ct (Some i) ≡ hung i up (tree_at s.level at (at i).a) (tree_at s.level at (at i).b) (tree_at s.level at (at i).c) (tree_at s.level at (at i).d) q (tree_in u bt (Some j))
         tree =
             graft s.level fresh i (Some j) at bt ct up h.stands.single h.unused rest q (tree_in u bt (Some j))
-            (down_depth k s bound at i h.stands q sink_deep u eu o eo' bt (Some j)) not_i
-            (λ n z. sunk.outside n (ap (held n) (sym (down_link k s bound at i h.stands q sink_deep u eu o eo')) ∙ z)) (put ∙ ap (λ (c : Cell). relink q c up (Some j)) (sym ep))
+            (down_depth at i h.stands q sink_deep eu eo' bt (Some j)) not_i
+            (λ n z. sunk.outside n (ap (held n) (sym (down_link at i h.stands q sink_deep eu eo')) ∙ z)) (put ∙ ap (λ (c : Cell). relink q c up (Some j)) (sym ep))
 
         gains : Gains k (quadrant q s) down fresh (pick (tree_at s.level at (at i).a) (tree_at s.level at (at i).b) (tree_at s.level at (at i).c) (tree_at s.level at (at i).d) q) (tree_in u bt (Some j))
         gains = turned (tree_in u bt (Some j)) sunk.gains

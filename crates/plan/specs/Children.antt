@@ -9,8 +9,8 @@ use Rattle.grade.specs.Kind.{Kind}
 use Rattle.treap.specs.Spots.{Spot, Outranks}
 use Rattle.treap.specs.Trees.{Quadrant}
 use Rattle.boxtree.specs.Marks.{spot_of}
+use Rattle.boxtree.specs.Quadrants.{quadrant_of}
 use Rattle.plan.specs.declared.lift.Child.{Child}
-use Rattle.plan.specs.Squares.{quadrant_of}
 use Rattle.plan.specs.Places.{Cell, link}
 
 pub record Choice : Type 0 where

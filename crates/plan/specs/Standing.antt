@@ -2,8 +2,8 @@
 -- of its boxes alone, so a change in one quadrant leaves the others as they were.
 --
 --   tree_in s at o         the tree of the square s whose root is in the place o
---   Stands k s bound t     the tree is ordered in the square, no cell has two marks, no two boxes one place, and each
---                          place is below the bound
+--   Stands k s bound t     the tree is ordered in the square, which fits a plan, no cell has two marks, no two boxes one
+--                          place, and each place is below the bound, which a link can tell
 --   Found row col t o      o is the mark of the tree in the cell, or none where it has none
 --   Sinks, Sunk            a mark is asked to go into a tree; it has gone, into the place fresh
 --   Lifted                 a mark is taken out of a tree, and a place is free
@@ -14,6 +14,7 @@ use Rattle.treap.specs.Spots.{Spot}
 use Rattle.treap.specs.Trees.{Quadrant, Square, Tree, Shows, Holds, Ordered}
 use Rattle.treap.specs.Sums.{in_cell, held, Alone}
 use Rattle.treap.specs.Changes.{Gains, Loses, Renumbers}
+use Rattle.plan.specs.Squares.{Fits}
 use Rattle.plan.specs.Places.{Cell, Below, link, tree_at}
 
 abbrev pub tree_in : Square → (ℕ → Cell) → Option ℕ → Tree
@@ -24,6 +25,8 @@ abbrev pub Linked : ℕ → Cell → Type 0
 Linked bound p = (q : Quadrant) → Below bound (link q p)
 
 pub record Stands (k : Kind) (s : Square) (bound : ℕ) (t : Tree) : Type 0 where
+  pub fits : Fits s
+  pub few : bound ≤ 65535
   pub ordered : Ordered k s t
   pub alone : Alone t
   pub single : (n : ℕ) → held n t ≤ 1
@@ -32,6 +35,11 @@ pub record Stands (k : Kind) (s : Square) (bound : ℕ) (t : Tree) : Type 0 wher
 abbrev pub Found : ℕ → ℕ → Tree → Option Spot → Type 0
 Found row col t None = in_cell row col t ≡ 0
 Found row col t (Some x) = Shows t x × (x.row ≡ row) × (x.col ≡ col)
+
+-- the grade of a mark that may be absent
+abbrev pub grade_of : Option Spot → Option ℕ
+grade_of None = None
+grade_of (Some x) = Some x.grade
 
 pub record Sinks (k : Kind) (s : Square) (bound : ℕ) (m : Spot) (fresh : ℕ) (t : Tree) : Type 0 where
   pub stands : Stands k s bound t

@@ -11,7 +11,6 @@ mod relocate;
 pub mod run;
 mod seek;
 mod sink;
-mod square;
 mod tree;
 
 pub use place::Place;

@@ -2,15 +2,17 @@
 ghost use Rattle.std.specs.Prelude.{◌≡◌, ℕ, ◌<◌, ◌≤◌, length, Some};
 ghost use Rattle.treap.specs.Trees.{Shows};
 ghost use Rattle.boxtree.specs.Marks.{spot_of};
-ghost use Rattle.plan.specs.Squares.{square_of, quadrant_of, Fits};
+ghost use Rattle.boxtree.specs.Quadrants.{quadrant_of};
+ghost use Rattle.boxtree.specs.Squares.{square_of};
 ghost use Rattle.plan.specs.Places.{cells, cell_of, Below, link};
 ghost use Rattle.plan.specs.Standing.{tree_in, Stands, Lifted, Linked};
 ghost use Rattle.plan.specs.Children.{children_of, ChildAt, Better, Best};
 
 use crate::place::{Place, read, write};
-use crate::rank::{outranks, stands_in};
-use crate::square::{Quadrant, Square};
+use crate::rank::stands_in;
 use boxtree::mark::Mark;
+use boxtree::quadrant::Quadrant;
+use boxtree::square::Square;
 use grade::Grade;
 
 // A box right below another: its quadrant, its place and its mark.
@@ -47,7 +49,7 @@ fn better<G: Grade>(first: Option<Child<G>>, second: Option<Child<G>>) -> Option
         None => second,
         Some(x) => match second {
             None => Some(x),
-            Some(y) => if outranks(y.mark, x.mark) {
+            Some(y) => if y.mark.outranks(x.mark) {
                 Some(y)
             } else {
                 Some(x)
@@ -81,9 +83,7 @@ pub(crate) struct Freed {
 // Takes the root's mark out of the tree whose root is in the place `i`. The best mark right below moves up into its box, and
 // so on down to a box with none below it, whose place is free.
 pub(crate) fn pull<G: Grade>(places: &mut [Place<G>], i: u16, square: Square) -> Freed
-    requires few { length places.old ≤ 65535 }
-    requires fits { Fits (square_of square) }
-    requires stands { Stands G.Grade.kind (square_of square) (length places.old) (tree_in (square_of square) (cells G.Grade.coded places.old) (Some i)) }
+    requires { Stands G.Grade.kind (square_of square) (length places.old) (tree_in (square_of square) (cells G.Grade.coded places.old) (Some i)) }
     ensures { Lifted G.Grade.kind (square_of square) (cells G.Grade.coded places.old i).mark (cells G.Grade.coded places.old) (Some i) (cells G.Grade.coded places.new) result.root result.place }
 {
     let here = read(places, i);
@@ -114,8 +114,6 @@ pub(crate) fn lift<G: Grade>(
     square: Square,
     mark: Mark<G>,
 ) -> Freed
-    requires few { length places.old ≤ 65535 }
-    requires fits { Fits (square_of square) }
     requires stands { Stands G.Grade.kind (square_of square) (length places.old) (tree_in (square_of square) (cells G.Grade.coded places.old) root) }
     requires shown { Shows (tree_in (square_of square) (cells G.Grade.coded places.old) root) (spot_of G.Grade.coded mark) }
     ensures { Lifted G.Grade.kind (square_of square) (spot_of G.Grade.coded mark) (cells G.Grade.coded places.old) root (cells G.Grade.coded places.new) result.root result.place }
@@ -127,10 +125,11 @@ pub(crate) fn lift<G: Grade>(
         },
         Some(i) => {
             let here = read(places, i);
-            if stands_in(here.mark, mark.row, mark.col) {
+            let cell = mark.cell();
+            if stands_in(here.mark, cell) {
                 pull(places, i, square)
             } else {
-                let q = square.quadrant_at(mark.row, mark.col);
+                let q = square.quadrant_at(cell);
                 let freed = lift(places, here.link(q), square.part(q), mark);
                 write(places, i, here.relinked(here.mark, q, freed.root));
                 Freed {

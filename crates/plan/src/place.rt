@@ -2,10 +2,10 @@
 ghost use Rattle.std.specs.Prelude.{◌≡◌, ℕ, ◌<◌, length, ◌≢◌};
 ghost use Rattle.boxtree.specs.Marks.{spot_of};
 ghost use Rattle.plan.specs.Places.{Below, cells, cell_of, leaf_of, relink, link as link_to, link_of};
-ghost use Rattle.plan.specs.Squares.{quadrant_of};
+ghost use Rattle.boxtree.specs.Quadrants.{quadrant_of};
 
-use crate::square::Quadrant;
 use boxtree::mark::Mark;
+use boxtree::quadrant::Quadrant;
 use grade::Grade;
 
 // The place of a box, or none, in 16 bits: 0 is none, and any other number is one more than the place.

@@ -1,25 +1,18 @@
 //! Which of two marks outranks the other, and where a mark stands.
-ghost use Rattle.std.specs.Prelude.{◌≡◌, Decides};
+ghost use Rattle.std.specs.Prelude.{◌≡◌};
 ghost use Rattle.boxtree.specs.Marks.{spot_of};
-ghost use Rattle.treap.specs.Spots.{Outranks};
 ghost use Rattle.treap.specs.Sums.{at_cell};
 ghost use Rattle.treap.specs.Changes.{Ranked};
 
+use boxtree::cell::Cell;
 use boxtree::mark::Mark;
 use grade::Grade;
 
-// Whether the first mark outranks the second: by its grade, and with equal grades by the smaller row, then column.
-pub(crate) fn outranks<G: Grade>(m: Mark<G>, n: Mark<G>) -> bool
-    ensures { Decides result (Outranks G.Grade.kind (spot_of G.Grade.coded m) (spot_of G.Grade.coded n)) }
-{
-    m.outranks(n)
-}
-
 // Whether the mark stands in the cell.
-pub(crate) fn stands_in<G: Grade>(m: Mark<G>, row: u16, col: u16) -> bool
-    ensures { result ≡ at_cell row col (spot_of G.Grade.coded m) }
+pub(crate) fn stands_in<G: Grade>(m: Mark<G>, cell: Cell) -> bool
+    ensures { result ≡ at_cell cell.row cell.col (spot_of G.Grade.coded m) }
 {
-    row == m.row && col == m.col
+    cell == m.cell()
 }
 
 // Two marks, the one that outranks the other first.
@@ -32,7 +25,7 @@ pub(crate) struct Ranking<G> {
 pub(crate) fn rank_pair<G: Grade>(m: Mark<G>, n: Mark<G>) -> Ranking<G>
     ensures { Ranked G.Grade.kind (spot_of G.Grade.coded m) (spot_of G.Grade.coded n) (spot_of G.Grade.coded result.up) (spot_of G.Grade.coded result.down) }
 {
-    if outranks(m, n) {
+    if m.outranks(n) {
         Ranking { up: m, down: n }
     } else {
         Ranking { up: n, down: m }

@@ -1,8 +1,11 @@
 //! Why a call on a plan is turned down.
-ghost use Rattle.std.specs.Prelude.{◌≡◌};
+ghost use Rattle.std.proofs.Common.{rules};
 ghost use Rattle.plan.specs.Refusals.{refusal_number};
 
-#[derive(Clone, Copy)]
+use refusals::Refusal;
+
+/// The reason for which a call on a plan is turned down.
+#[derive(Clone, Copy, PartialEq, Eq, Debug)]
 pub enum PlanRefusal {
     /// A plan is opened with a level above 10.
     Side,
@@ -18,11 +21,12 @@ pub enum PlanRefusal {
     Full,
 }
 
-impl PlanRefusal {
-    /// The number of the refusal.
-    pub fn number(self) -> u8
-        ensures { result ≡ refusal_number self }
-    {
+impl Refusal for PlanRefusal {
+    ghost numbered = { refusal_number };
+
+    ghost listed = { Prim.search rules };
+
+    fn number(self) -> u8 {
         match self {
             PlanRefusal::Side => 1,
             PlanRefusal::Places => 2,

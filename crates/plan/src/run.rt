@@ -1,8 +1,8 @@
 //! Calls as values, and runs of them.
-ghost use Rattle.std.specs.Prelude.{◌≡◌, ℕ, ◌<◌, min, map, length, slice_index_or, slice_set};
+ghost use Rattle.std.specs.Prelude.{◌≡◌, ℕ, min, length};
 ghost use Rattle.treap.specs.Ledgers.{answer, next};
-ghost use Rattle.plan.specs.Plans.{Sound, ledger};
-ghost use Rattle.plan.specs.Runs.{call_of, answer_of, Unchanged, Ran, Told};
+ghost use Rattle.plan.specs.Plans.{ledger, Kept};
+ghost use Rattle.plan.specs.Runs.{call_of, answer_of, Ran, Told};
 
 use crate::place::Place;
 use crate::plan::Plan;
@@ -12,7 +12,7 @@ use boxtree::mark::Mark;
 use grade::Grade;
 
 /// A call on a plan.
-#[derive(Clone, Copy)]
+#[derive(Clone, Copy, PartialEq, Eq, Debug)]
 pub enum Call<G> {
     Enter(Mark<G>),
     Regrade(Mark<G>),
@@ -20,63 +20,29 @@ pub enum Call<G> {
     Look(u16, u16),
 }
 
-/// What a call is answered: a mark is entered or regraded, a grade is struck or looked up, the cell is vacant, or a refusal.
-#[derive(Clone, Copy)]
+/// What a call that is not refused is answered: a mark is entered or regraded, a grade is struck or looked up, or the cell is
+/// vacant.
+#[derive(Clone, Copy, PartialEq, Eq, Debug)]
 pub enum Answer<G> {
     Done,
     Grade(G),
     Vacant,
-    Refused(PlanRefusal),
-}
-
-fn call_at<G: Copy>(calls: &[Call<G>], i: usize) -> Call<G>
-    requires { i < length calls.now }
-    ensures { result ≡ slice_index_or calls.now i result }
-{
-    calls[i]
-}
-
-fn put_answer<G: Copy>(answers: &mut [Answer<G>], i: usize, answer: Answer<G>)
-    requires { i < length answers.old }
-    ensures { answers.new ≡ slice_set answers.old i answer }
-{
-    answers[i] = answer;
-}
-
-fn shorter(a: usize, b: usize) -> usize
-    ensures { result ≡ min a b }
-{
-    if a < b { a } else { b }
 }
 
 impl<G: Grade> Plan<'_, G> {
     /// Carries out one call.
-    pub fn call(&mut self, call: Call<G>) -> Answer<G>
-        requires { Sound G.Grade.kind G.Grade.coded self.old }
-        ensures sound { Sound G.Grade.kind G.Grade.coded self.new }
+    pub fn call(&mut self, call: Call<G>) -> Result<Answer<G>, PlanRefusal>
         ensures answered { answer_of G.Grade.coded result ≡ answer (ledger G.Grade.coded self.old) (call_of G.Grade.coded call) }
         ensures followed { ledger G.Grade.coded self.new ≡ next (ledger G.Grade.coded self.old) (call_of G.Grade.coded call) }
-        ensures kept { Unchanged self.old self.new result }
+        ensures kept { Kept self.old self.new result }
     {
         match call {
-            Call::Enter(mark) => match self.enter(mark) {
-                Ok(_) => Answer::Done,
-                Err(e) => Answer::Refused(e),
-            },
-            Call::Regrade(mark) => match self.regrade(mark) {
-                Ok(_) => Answer::Done,
-                Err(e) => Answer::Refused(e),
-            },
-            Call::Strike(row, col) => match self.strike(row, col) {
-                Ok(grade) => Answer::Grade(grade),
-                Err(e) => Answer::Refused(e),
-            },
-            Call::Look(row, col) => match self.look(row, col) {
-                Ok(o) => match o {
-                    Some(grade) => Answer::Grade(grade),
-                    None => Answer::Vacant,
-                },
-                Err(e) => Answer::Refused(e),
+            Call::Enter(mark) => self.enter(mark).map(|_| Answer::Done),
+            Call::Regrade(mark) => self.regrade(mark).map(|_| Answer::Done),
+            Call::Strike(row, col) => self.strike(row, col).map(Answer::Grade),
+            Call::Look(row, col) => match self.look(row, col)? {
+                Some(grade) => Ok(Answer::Grade(grade)),
+                None => Ok(Answer::Vacant),
             },
         }
     }
@@ -87,18 +53,21 @@ impl<G: Grade> Plan<'_, G> {
 pub fn carry_out<G: Grade>(
     plan: &mut Plan<'_, G>,
     calls: &[Call<G>],
-    answers: &mut [Answer<G>],
+    answers: &mut [Result<Answer<G>, PlanRefusal>],
 ) -> usize
-    requires { Sound G.Grade.kind G.Grade.coded plan.old }
     ensures count { result ≡ min (length calls.now) (length answers.old) }
     ensures ran { Ran G.Grade.kind G.Grade.coded (ledger G.Grade.coded plan.old) calls.now answers.old answers.new plan.new }
 {
-    let count = shorter(calls.len(), answers.len());
-    for i in 0..count {
-        let answer = plan.call(call_at(calls, i));
-        put_answer(answers, i, answer);
+    // by an index, since of what a `zip` with `iter_mut` writes nothing is known
+    for (i, answer) in answers.iter_mut().enumerate() {
+        let Some(call) = calls.get(i) else {
+            break;
+        };
+        *answer = plan.call(*call);
     }
-    count
+    // what the plan shows is lawful, as its boxes tell
+    let _ = plan.boxes();
+    calls.len().min(answers.len())
 }
 
 /// Opens a plan without marks and carries out calls on it. However many calls there are and whichever are refused, answers
@@ -107,16 +76,12 @@ pub fn run<'a, G: Grade>(
     h: u32,
     places: &'a mut [Place<G>],
     calls: &[Call<G>],
-    answers: &mut [Answer<G>],
+    answers: &mut [Result<Answer<G>, PlanRefusal>],
 ) -> Result<Plan<'a, G>, PlanRefusal>
     ensures { Told G.Grade.kind G.Grade.coded h (length places.old) calls.now answers.old answers.new result }
 {
-    match check_open(h, places.len()) {
-        Err(e) => Err(e),
-        Ok(_) => {
-            let mut plan = Plan::open(h, places);
-            carry_out(&mut plan, calls, answers);
-            Ok(plan)
-        }
-    }
+    check_open(h, places.len())?;
+    let mut plan = Plan::open(h, places);
+    carry_out(&mut plan, calls, answers);
+    Ok(plan)
 }

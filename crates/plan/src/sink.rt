@@ -1,14 +1,14 @@
 //! Entering a mark into the tree of a plan.
-ghost use Rattle.std.specs.Prelude.{ℕ, ◌≤◌, length};
+ghost use Rattle.std.specs.Prelude.{length};
 ghost use Rattle.boxtree.specs.Marks.{spot_of};
-ghost use Rattle.plan.specs.Squares.{square_of, Fits};
+ghost use Rattle.boxtree.specs.Squares.{square_of};
 ghost use Rattle.plan.specs.Places.{cells};
 ghost use Rattle.plan.specs.Standing.{tree_in, Sinks, Sunk};
 
 use crate::place::{Place, read, write};
 use crate::rank::rank_pair;
-use crate::square::{Quadrant, Square};
 use boxtree::mark::Mark;
+use boxtree::square::Square;
 use grade::Grade;
 
 // Lets a mark sink into the tree whose root is in a place, and answers where the root then is. In each box on the way the
@@ -20,9 +20,7 @@ pub(crate) fn sink<G: Grade>(
     mark: Mark<G>,
     fresh: u16,
 ) -> u16
-    requires few { length places.old ≤ 65535 }
-    requires fits { Fits (square_of square) }
-    requires sinks { Sinks G.Grade.kind (square_of square) (length places.old) (spot_of G.Grade.coded mark) fresh (tree_in (square_of square) (cells G.Grade.coded places.old) root) }
+    requires { Sinks G.Grade.kind (square_of square) (length places.old) (spot_of G.Grade.coded mark) fresh (tree_in (square_of square) (cells G.Grade.coded places.old) root) }
     ensures { Sunk G.Grade.kind (square_of square) (spot_of G.Grade.coded mark) fresh (cells G.Grade.coded places.old) root (cells G.Grade.coded places.new) result }
 {
     match root {
@@ -33,7 +31,7 @@ pub(crate) fn sink<G: Grade>(
         Some(i) => {
             let here = read(places, i);
             let pair = rank_pair(mark, here.mark);
-            let q = square.quadrant_at(pair.down.row, pair.down.col);
+            let q = square.quadrant_at(pair.down.cell());
             let below = sink(places, here.link(q), square.part(q), pair.down, fresh);
             write(places, i, here.relinked(pair.up, q, Some(below)));
             i

@@ -1,84 +1,65 @@
 //! A plan as a box tree. The number of a box is its place.
-ghost use Rattle.std.specs.Prelude.{◌≡◌, ℕ, ◌≤◌, length};
-ghost use Rattle.plan.specs.Places.{cells};
-ghost use Rattle.plan.specs.Boxes.{BoxRead, Indexed};
+ghost use Rattle.std.specs.Prelude.{◌≡◌, nat_lt};
+ghost use Rattle.treap.specs.Trees.{Lawful, find};
+ghost use Rattle.plan.specs.Boxes.{BoxRead};
 ghost use Rattle.plan.specs.Plans.{Sound, shown};
 
-use crate::change::root;
+use crate::change::{root, whole};
 use crate::place::{Place, read};
 use crate::plan::Plan;
-use crate::square::Quadrant;
 use boxtree::mark::Mark;
+use boxtree::quadrant::Quadrant;
 use boxtree::refusal::Absent;
 use boxtree::square::Square;
 use boxtree::tree::BoxTree;
 use grade::Grade;
 
-// The place that holds the box `b`, of `count` boxes.
-fn box_place<G: Grade>(places: &[Place<G>], count: u16, b: u32) -> Result<Place<G>, Absent>
-    requires { count ≤ length places.now }
-    ensures { BoxRead G.Grade.coded (cells G.Grade.coded places.now) count b result }
-{
-    if b >= u32::from(count) {
-        return Err(Absent);
+impl<G: Grade> Plan<'_, G> {
+    // Whether it has the box `b`.
+    fn has_box(&self, b: u32) -> bool
+        ensures is { result ≡ nat_lt b self.now.count }
+        ensures sound { Sound G.Grade.kind G.Grade.coded self.now }
+    {
+        b < u32::from(self.count)
     }
-    Ok(read(places, b as u16))
-}
 
-// The quadrant that a caller names by its index.
-fn quadrant_named(q: u8) -> Result<Quadrant, Absent>
-    ensures { Indexed q result }
-{
-    match q {
-        0 => Ok(Quadrant::TopLeft),
-        1 => Ok(Quadrant::TopRight),
-        2 => Ok(Quadrant::BottomLeft),
-        3 => Ok(Quadrant::BottomRight),
-        _ => Err(Absent),
-    }
-}
-
-// A place as the number of a box.
-fn box_number(place: Option<u16>) -> Option<u32>
-    ensures { result ≡ place }
-{
-    match place {
-        None => None,
-        Some(i) => Some(u32::from(i)),
+    // The place that holds the box `b`.
+    fn box_place(&self, b: u32) -> Result<Place<G>, Absent>
+        ensures holds { BoxRead G.Grade.coded (find b (shown G.Grade.coded self.now).tree) result }
+        ensures lawful { Lawful G.Grade.kind (shown G.Grade.coded self.now) }
+    {
+        if !self.has_box(b) {
+            return Err(Absent);
+        }
+        Ok(read(self.places, b as u16))
     }
 }
 
 impl<G: Grade> BoxTree for Plan<'_, G> {
     type G = G;
 
-    ghost sound = { λ p. Sound G.Grade.kind G.Grade.coded p };
-
     ghost shown = { λ p. shown G.Grade.coded p };
 
     fn square(&self) -> Square {
-        Square {
-            level: self.h,
-            top: 0,
-            left: 0,
-        }
+        whole(self.h)
     }
 
     fn root(&self) -> Option<u32> {
-        box_number(root(self.count))
+        root(self.count).map(u32::from)
     }
 
     fn child(&self, b: u32, q: u8) -> Result<Option<u32>, Absent> {
-        let here = box_place(self.places, self.count, b)?;
-        let quadrant = quadrant_named(q)?;
-        Ok(box_number(here.link(quadrant)))
+        let here = self.box_place(b)?;
+        let quadrant = Quadrant::try_from(q)?;
+        Ok(here.link(quadrant).map(u32::from))
     }
 
     fn mark(&self, b: u32) -> Result<Mark<G>, Absent> {
-        let here = box_place(self.places, self.count, b)?;
+        let here = self.box_place(b)?;
         Ok(here.mark)
     }
 
     fn ceiling(&self) -> u16 {
-        self.count
+        self.boxes()
     }
 }

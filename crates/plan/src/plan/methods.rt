@@ -1,17 +1,19 @@
 //! The calls on a plan. A refused call leaves the plan and its places as they were.
-ghost use Rattle.std.specs.Prelude.{◌≡◌, ℕ, true, length, None};
-ghost use Rattle.boxtree.specs.Marks.{spot_of};
+ghost use Rattle.std.specs.Prelude.{◌≡◌, ℕ, true, length, is_some, None};
+ghost use Rattle.boxtree.specs.Marks.{spot_of, spots_of};
 ghost use Rattle.treap.specs.Trees.{Lawful, unnumbered};
 ghost use Rattle.treap.specs.Plants.{plant};
-ghost use Rattle.treap.specs.Entries.{plan_square};
-ghost use Rattle.treap.specs.Ledgers.{open_refusal, blank, entries, answer, next, enter as entering, regrade as regrading, strike as striking, look as looking};
+ghost use Rattle.treap.specs.Ledgers.{open_refusal, blank, entries, taken, answer, next, enter as entering, regrade as regrading, strike as striking, look as looking};
 ghost use Rattle.plan.specs.Refusals.{numbered, done_or, graded_or, looked_up};
-ghost use Rattle.plan.specs.Plans.{Sound, ledger, shown, Kept};
+ghost use Rattle.plan.specs.Standing.{Found, grade_of};
+ghost use Rattle.plan.specs.Plans.{Sound, ledger, shown, on_plan, Kept};
 
-use crate::change::{add, cleared, mark_in, on_plan_of, replace, take, tally};
+use crate::change::{put, root, take, whole};
 use crate::place::Place;
 use crate::plan::Plan;
 use crate::refusal::PlanRefusal;
+use crate::seek::seek;
+use boxtree::cell::Cell;
 use boxtree::mark::Mark;
 use grade::Grade;
 
@@ -32,103 +34,124 @@ impl<'a, G: Grade> Plan<'a, G> {
     /// A plan with no marks, over places that are lent to it.
     pub fn open(h: u32, places: &'a mut [Place<G>]) -> Plan<'a, G>
         requires { open_refusal h (length places.old) ≡ None }
-        ensures sound { Sound G.Grade.kind G.Grade.coded result }
-        ensures blank { ledger G.Grade.coded result ≡ blank h (length places.old) }
+        ensures { ledger G.Grade.coded result ≡ blank h (length places.old) }
     {
-        let count = cleared(places, h);
-        Plan { h, count, places }
+        Plan {
+            h,
+            count: 0,
+            places,
+        }
     }
 }
 
 impl<G: Grade> Plan<'_, G> {
+    // How many boxes its tree has: as many as its ledger has marks.
+    pub(crate) fn boxes(&self) -> u16
+        ensures is { result ≡ self.now.count }
+        ensures sound { Sound G.Grade.kind G.Grade.coded self.now }
+        ensures counted { result ≡ length (entries (ledger G.Grade.coded self.now)) }
+    {
+        self.count
+    }
+
+    // Whether a cell lies on it.
+    fn covers(&self, cell: Cell) -> bool
+        ensures { result ≡ on_plan self.now.h cell.row cell.col }
+    {
+        let side = 1u16 << self.h;
+        cell.row < side && cell.col < side
+    }
+
+    // Its mark in a cell that lies on it.
+    fn mark_in(&self, cell: Cell) -> Option<Mark<G>>
+        requires { on_plan self.now.h cell.row cell.col ≡ true }
+        ensures found { Found cell.row cell.col (shown G.Grade.coded self.now).tree (spots_of G.Grade.coded result) }
+        ensures taken { is_some result ≡ taken (ledger G.Grade.coded self.now) cell.row cell.col }
+        ensures graded { (ledger G.Grade.coded self.now).grade cell.row cell.col ≡ grade_of (spots_of G.Grade.coded result) }
+    {
+        seek(self.places, root(self.count), whole(self.h), cell)
+    }
+
     /// Strikes all marks, and makes the side 2 to the power `h`.
     pub fn reopen(&mut self, h: u32)
-        requires { open_refusal h (length self.old.places.now) ≡ None }
-        ensures sound { Sound G.Grade.kind G.Grade.coded self.new }
-        ensures blank { ledger G.Grade.coded self.new ≡ blank h (length self.old.places.now) }
+        requires { open_refusal h (length self.old.places) ≡ None }
+        ensures { ledger G.Grade.coded self.new ≡ blank h (length self.old.places) }
     {
-        let count = cleared(self.places, h);
         self.h = h;
-        self.count = count;
+        self.count = 0;
     }
 
     /// Enters a mark. Refused where its cell lies off the plan or has a mark, or where there are as many marks as places.
     pub fn enter(&mut self, mark: Mark<G>) -> Result<(), PlanRefusal>
-        requires { Sound G.Grade.kind G.Grade.coded self.old }
-        ensures sound { Sound G.Grade.kind G.Grade.coded self.new }
         ensures answered { done_or result ≡ answer (ledger G.Grade.coded self.old) (entering (spot_of G.Grade.coded mark)) }
         ensures followed { ledger G.Grade.coded self.new ≡ next (ledger G.Grade.coded self.old) (entering (spot_of G.Grade.coded mark)) }
         ensures kept { Kept self.old self.new result }
     {
-        let h = self.h;
-        let count = self.count;
-        match add(self.places, h, count, mark) {
-            Ok(marks) => {
-                self.count = marks;
-                Ok(())
-            }
-            Err(e) => Err(e),
+        let cell = mark.cell();
+        if !self.covers(cell) {
+            return Err(PlanRefusal::Off);
         }
+        if self.mark_in(cell).is_some() {
+            return Err(PlanRefusal::Taken);
+        }
+        if self.boxes() as usize >= self.places() {
+            return Err(PlanRefusal::Full);
+        }
+        put(self.places, self.h, self.count, mark);
+        self.count += 1;
+        Ok(())
     }
 
     /// Gives the mark in a cell another grade, or the same. Refused where the cell lies off the plan or has no mark.
     pub fn regrade(&mut self, mark: Mark<G>) -> Result<(), PlanRefusal>
-        requires { Sound G.Grade.kind G.Grade.coded self.old }
-        ensures sound { Sound G.Grade.kind G.Grade.coded self.new }
         ensures answered { done_or result ≡ answer (ledger G.Grade.coded self.old) (regrading (spot_of G.Grade.coded mark)) }
         ensures followed { ledger G.Grade.coded self.new ≡ next (ledger G.Grade.coded self.old) (regrading (spot_of G.Grade.coded mark)) }
         ensures kept { Kept self.old self.new result }
     {
-        let h = self.h;
-        let count = self.count;
-        match replace(self.places, h, count, mark) {
-            Ok(_) => Ok(()),
-            Err(e) => Err(e),
-        }
+        // there are no more marks than places
+        let _ = self.boxes();
+        self.strike(mark.row, mark.col)?;
+        self.enter(mark)
     }
 
     /// Strikes the mark in a cell and answers its grade; its place is free again. Refused where the cell lies off the plan or
     /// has no mark.
     pub fn strike(&mut self, row: u16, col: u16) -> Result<G, PlanRefusal>
-        requires { Sound G.Grade.kind G.Grade.coded self.old }
-        ensures sound { Sound G.Grade.kind G.Grade.coded self.new }
         ensures answered { graded_or G.Grade.coded result ≡ answer (ledger G.Grade.coded self.old) (striking row col) }
         ensures followed { ledger G.Grade.coded self.new ≡ next (ledger G.Grade.coded self.old) (striking row col) }
         ensures kept { Kept self.old self.new result }
     {
-        let h = self.h;
-        let count = self.count;
-        match take(self.places, h, count, row, col) {
-            Ok(grade) => {
-                self.count = count - 1;
-                Ok(grade)
-            }
-            Err(e) => Err(e),
+        let cell = Cell { row, col };
+        if !self.covers(cell) {
+            return Err(PlanRefusal::Off);
         }
+        let Some(mark) = self.mark_in(cell) else {
+            return Err(PlanRefusal::Vacant);
+        };
+        take(self.places, self.h, self.count, mark);
+        self.count -= 1;
+        Ok(mark.grade)
     }
 
     /// The grade in a cell, or none where it is vacant. Refused where the cell lies off the plan.
     pub fn look(&self, row: u16, col: u16) -> Result<Option<G>, PlanRefusal>
-        requires { Sound G.Grade.kind G.Grade.coded self.now }
         ensures { looked_up G.Grade.coded result ≡ answer (ledger G.Grade.coded self.now) (looking row col) }
     {
-        if !on_plan_of(self.h, row, col) {
+        let cell = Cell { row, col };
+        if !self.covers(cell) {
             return Err(PlanRefusal::Off);
         }
-        match mark_in(self.places, self.h, self.count, row, col) {
-            Some(mark) => Ok(Some(mark.grade)),
-            None => Ok(None),
-        }
+        Ok(self.mark_in(cell).map(|mark| mark.grade))
     }
 
     /// How many marks the plan has. What it shows is lawful, and is the box tree of its ledger's marks.
     pub fn marks(&self) -> usize
-        requires { Sound G.Grade.kind G.Grade.coded self.now }
+        ensures sound { Sound G.Grade.kind G.Grade.coded self.now }
         ensures counted { result ≡ length (entries (ledger G.Grade.coded self.now)) }
         ensures lawful { Lawful G.Grade.kind (shown G.Grade.coded self.now) }
         ensures planted { unnumbered (shown G.Grade.coded self.now).tree ≡ plant G.Grade.kind (shown G.Grade.coded self.now).square (entries (ledger G.Grade.coded self.now)) }
     {
-        tally(self.places, self.h, self.count)
+        usize::from(self.boxes())
     }
 
     /// How many places the plan has.

@@ -1,56 +1,33 @@
 use Rattle.std.proofs.Common.{sym, arith}
-use Rattle.boxtree.specs.Marks.{spots_of}
-use Rattle.plan.specs.Squares.{square_of, quadrant_of}
-use Rattle.plan.specs.Places.{cells, cell_of}
-use Rattle.plan.proofs.Descent.{in_places, part_falls}
-use Rattle.plan.proofs.Seeking.{found_here, seek_deep, seek_asks, found_below}
+use Rattle.boxtree.specs.Quadrants.{quadrant_of}
+use Rattle.plan.specs.Places.{cells}
+use Rattle.plan.proofs.Descent.{in_places}
+use Rattle.plan.proofs.Seeking.{found_here, seek_divided, seek_asks, found_below}
 use Rattle.plan.proofs.seek.+seek.Goals as goal
 
 pub read-here-requires : goal.read-here-requires
-read-here-requires g t c = in_places g.G.Grade.kind (square_of c.args.square) _ (cells g.G.Grade.coded c.args.places.now) _ _ c.in-Some.is c.requires.stands
+read-here-requires g t c = in_places (cells g.G.Grade.coded c.args.places.now) c.requires.stands c.in-Some.is
 
-pub quadrant_at-q-requires : goal.quadrant_at-q-requires
-quadrant_at-q-requires g t c =
-    record {
-      deep =
-          seek_deep g.G.Grade.kind (square_of c.args.square) _ _ _ c.requires.inside (cells g.G.Grade.coded c.args.places.now) _ _ c.in-Some.is
-          (cell_of g.G.Grade.coded c.read-here.result) c.read-here.ensures c.requires.stands (sym c.if-stands_in.ensures);
-      fits = c.requires.fits;
-      inside = c.requires.inside;
-    }
+pub quadrant_at-q-requires-clause-divided : goal.quadrant_at-q-requires-clause-divided
+quadrant_at-q-requires-clause-divided g t c =
+    seek_divided c.requires.inside (cells g.G.Grade.coded c.args.places.now) c.requires.stands c.in-Some.is c.read-here.ensures (sym c.if-stands_in.ensures)
 
 pub part-requires : goal.part-requires
 part-requires g t c =
-    record {
-      deep =
-          seek_deep g.G.Grade.kind (square_of c.args.square) _ _ _ c.requires.inside (cells g.G.Grade.coded c.args.places.now) _ _ c.in-Some.is
-          (cell_of g.G.Grade.coded c.read-here.result) c.read-here.ensures c.requires.stands (sym c.if-stands_in.ensures);
-      fits = c.requires.fits;
-    }
+    seek_divided c.requires.inside (cells g.G.Grade.coded c.args.places.now) c.requires.stands c.in-Some.is c.read-here.ensures (sym c.if-stands_in.ensures)
 
 pub seek-requires : goal.seek-requires
 seek-requires g t c κs within =
-    let deep =
-    seek_deep g.G.Grade.kind (square_of c.args.square) _ _ _ c.requires.inside (cells g.G.Grade.coded c.args.places.now) _ _ c.in-Some.is
-    (cell_of g.G.Grade.coded c.read-here.result) c.read-here.ensures c.requires.stands (sym c.if-stands_in.ensures) in
-    let falls = part_falls (quadrant_of c.quadrant_at-q.result) (square_of c.args.square) (square_of c.part.result) deep c.part.ensures in (
-      omega (arith, c.decreases, falls),
-      (
-        within,
-        seek_asks g.G.Grade.kind (square_of c.args.square) _ _ _ c.requires.inside (cells g.G.Grade.coded c.args.places.now) _ _ c.in-Some.is
-            (cell_of g.G.Grade.coded c.read-here.result) c.read-here.ensures c.requires.stands (sym c.if-stands_in.ensures)
-            (quadrant_of c.quadrant_at-q.result) c.quadrant_at-q.ensures (square_of c.part.result) c.part.ensures c.link.result c.link.ensures c.requires.fits,
-      ),
-    )
+    let w =
+    seek_asks c.requires.inside (cells g.G.Grade.coded c.args.places.now) c.requires.stands c.in-Some.is c.read-here.ensures (sym c.if-stands_in.ensures)
+    (quadrant_of c.quadrant_at-q.result) c.quadrant_at-q.ensures c.part.ensures c.link.ensures in
+    (omega (arith, c.decreases, w.0), (within, w.1))
 
 pub returns-then-stands_in : goal.returns-then-stands_in
 returns-then-stands_in g t c =
-    found_here g.G.Grade.kind (square_of c.args.square) _ _ _ c.requires.inside (cells g.G.Grade.coded c.args.places.now) _ _ c.in-Some.is
-    (cell_of g.G.Grade.coded c.read-here.result) c.read-here.ensures c.requires.stands (sym c.if-stands_in.ensures)
+    found_here c.requires.inside (cells g.G.Grade.coded c.args.places.now) c.requires.stands c.in-Some.is c.read-here.ensures (sym c.if-stands_in.ensures)
 
 pub returns-else-stands_in : goal.returns-else-stands_in
 returns-else-stands_in g t c =
-    found_below g.G.Grade.kind (square_of c.args.square) _ _ _ c.requires.inside (cells g.G.Grade.coded c.args.places.now) _ _ c.in-Some.is
-    (cell_of g.G.Grade.coded c.read-here.result) c.read-here.ensures c.requires.stands (sym c.if-stands_in.ensures)
-    (quadrant_of c.quadrant_at-q.result) c.quadrant_at-q.ensures (square_of c.part.result) c.part.ensures c.link.result c.link.ensures
-    (spots_of g.G.Grade.coded c.seek.result) c.seek.ensures
+    found_below c.requires.inside (cells g.G.Grade.coded c.args.places.now) c.requires.stands c.in-Some.is c.read-here.ensures (sym c.if-stands_in.ensures)
+    (quadrant_of c.quadrant_at-q.result) c.quadrant_at-q.ensures c.part.ensures c.link.ensures _ c.seek.ensures

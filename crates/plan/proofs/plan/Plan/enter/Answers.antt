@@ -1,12 +1,7 @@
-use Rattle.std.proofs.Common.{refl}
-use Rattle.plan.proofs.Calls.{shape_kept, answer_refused, next_refused}
+use Rattle.std.proofs.Common.{sym, ◌∙◌}
 use Rattle.plan.proofs.plan.Plan.enter.Goals as goal
 
-pub returns-in-Err : goal.returns-in-Err
-returns-in-Err g c =
-    record {
-      sound = shape_kept g.G.Grade.kind g.G.Grade.coded _ _ _ c.requires _ c.in-Err.ensures.same;
-      answered = answer_refused g.G.Grade.kind g.G.Grade.coded _ _ _ c.requires _ _ _ c.in-Err.ensures;
-      followed = next_refused g.G.Grade.kind g.G.Grade.coded _ _ _ c.requires _ _ _ c.in-Err.ensures;
-      kept = (refl, refl, c.in-Err.ensures.same);
-    }
+pub put-requires-clause-vacant : goal.put-requires-clause-vacant
+put-requires-clause-vacant g c =
+    let taken = rw (← c.self.view_is, c.cell-cell.ensures) at c.mark_in.ensures.taken in
+    sym taken ∙ sym c.is_some.ensures ∙ c.if-is_some.false

@@ -2,4 +2,4 @@ use Rattle.plan.proofs.Shapes.{lawful}
 use Rattle.plan.proofs.tree.PlanBoxTree.ceiling.Goals as goal
 
 pub returns-clause-lawful : goal.returns-clause-lawful
-returns-clause-lawful g c = lawful g.G.Grade.kind g.G.Grade.coded _ _ _ c.requires
+returns-clause-lawful g c = lawful c.boxes.ensures.sound
