@@ -4,12 +4,10 @@
 #![tactic(auto)]
 
 ghost use Rattle.std.specs.Prelude.{◌≡◌, ℕ, ◌+◌, ◌*◌, ◌/◌, ◌%◌, ◌^◌, ◌<◌, ◌≤◌, length};
-ghost use Rattle.grade.specs.Kinds.{points};
-ghost use Rattle.plan.specs.Plans.{Sound};
 
 use boxtree::mark::Mark;
 use boxtree::window::Window;
-use draw::{DrawRefusal, Entry, draw};
+use draw::{DrawRefusal, Drawn, Entry, draw};
 use grade::points::Points;
 use plan::{Place, Plan};
 use std::time::Instant;
@@ -23,6 +21,10 @@ const SIDE: u16 = 1024;
 
 // How many places the plan and the queue have.
 const PLACES: usize = 65_535;
+
+// The sides of the windows, and how many marks are drawn of each.
+const SIDES: [u16; 4] = [10, 100, 1000, SIDE];
+const COUNTS: [u16; 3] = [1, 10, 100];
 
 // How many places the list has.
 const LONGEST: usize = 100;
@@ -53,39 +55,77 @@ impl Generator {
         self.state = state;
         ((state >> 33) % u64::from(bound)) as u16
     }
+
+    // A window of `side` by `side` cells, where the numbers put it; one that is as large as the plan has one place only.
+    fn window(&mut self, side: u16) -> Window
+        requires { (0 < side) × (side ≤ 1024) }
+    {
+        let mut top = 0;
+        let mut left = 0;
+        if side < SIDE {
+            let free = u32::from(SIDE - side);
+            top = self.below(free);
+            left = self.below(free);
+        }
+        Window {
+            top,
+            left,
+            bottom: top + (side - 1),
+            right: left + (side - 1),
+        }
+    }
 }
 
 // What some draws come to.
-#[derive(Drop)]
+#[derive(Clone, Copy, Default)]
 struct Totals {
     listed: u64,
     sum: u64,
     opened: u64,
 }
 
+impl Totals {
+    // Adds a draw, whose marks stand in the first places of the list.
+    fn add(&mut self, drawn: Drawn, list: &[Mark<Points>]) {
+        self.listed = self.listed.wrapping_add(drawn.listed as u64);
+        self.opened = self.opened.wrapping_add(u64::from(drawn.opened));
+        for mark in list.iter().take(drawn.listed) {
+            self.sum = self.sum.wrapping_add(u64::from(mark.grade.value));
+        }
+    }
+}
+
 fn main(rt: HostRuntime) -> io::Result<()> {
     let mut words = env::args(&rt)?;
     words.next();
-    let marks = match words.next() {
-        Some(word) => match word.as_str().parse::<u16>() {
-            Ok(marks) => usize::from(marks),
-            Err(_) => return usage(&rt),
-        },
-        None => return usage(&rt),
+    let Some(marks) = words.next().and_then(|word| word.as_str().parse::<u16>().ok()) else {
+        return usage(&rt);
     };
     let timed = match words.next() {
-        Some(word) => {
-            if word.as_str() != "time" {
-                return usage(&rt);
-            }
-            true
-        }
         None => false,
+        Some(word) if word.as_str() == "time" => true,
+        Some(_) => return usage(&rt),
     };
     let mut places = [Place::vacant(NONE); PLACES];
     let mut plan = Plan::open(LEVEL, &mut places);
-    fill(&mut plan, marks);
-    report(&rt, &plan, timed)
+    fill(&mut plan, usize::from(marks));
+    let mut queue = [Entry::vacant(NONE); PLACES];
+    let none = Mark {
+        row: 0,
+        col: 0,
+        grade: NONE,
+    };
+    let mut bench = Bench {
+        plan: &plan,
+        queue: &mut queue,
+        list: [none; LONGEST],
+    };
+    for side in SIDES {
+        for k in COUNTS {
+            bench.report(&rt, side, k, timed)?;
+        }
+    }
+    Ok(())
 }
 
 fn usage(rt: &HostRuntime) -> io::Result<()> {
@@ -96,11 +136,9 @@ fn usage(rt: &HostRuntime) -> io::Result<()> {
 }
 
 // Enters marks until there are so many. A cell that is marked already is passed over.
-fn fill(plan: &mut Plan<Points>, marks: usize)
-    requires { Sound points (λ p. p.value) plan.old }
-    ensures { Sound points (λ p. p.value) plan.new }
-{
+fn fill(plan: &mut Plan<Points>, marks: usize) {
     let mut numbers = Generator { state: 20_261_117 };
+    // The numbers are the same in each run, and fill a plan long before these turns are over.
     for _ in 0..u32::MAX {
         if plan.marks() >= marks {
             break;
@@ -114,120 +152,55 @@ fn fill(plan: &mut Plan<Points>, marks: usize)
     }
 }
 
-// Draws for each side and each number of marks, and prints what the draws come to.
-fn report(rt: &HostRuntime, plan: &Plan<Points>, timed: bool) -> io::Result<()>
-    requires { Sound points (λ p. p.value) plan.now }
-{
-    let mut queue = [Entry::vacant(NONE); PLACES];
-    let mut list = [Mark {
-        row: 0,
-        col: 0,
-        grade: NONE,
-    }; LONGEST];
-    report_side(rt, plan, &mut queue, &mut list, 10, timed)?;
-    report_side(rt, plan, &mut queue, &mut list, 100, timed)?;
-    report_side(rt, plan, &mut queue, &mut list, 1000, timed)?;
-    report_side(rt, plan, &mut queue, &mut list, SIDE, timed)
+// A plan, and the memory in which windows of it are drawn.
+#[derive(Drop)]
+struct Bench<'a> {
+    plan: &'a Plan<'a, Points>,
+    queue: &'a mut [Entry<Points>],
+    list: [Mark<Points>; LONGEST],
 }
 
-// The lines of one side.
-fn report_side(
-    rt: &HostRuntime,
-    plan: &Plan<Points>,
-    queue: &mut [Entry<Points>],
-    list: &mut [Mark<Points>],
-    side: u16,
-    timed: bool,
-) -> io::Result<()>
-    requires sound { Sound points (λ p. p.value) plan.now }
-    requires side { (0 < side) × (side ≤ 1024) }
-    requires places { 100 ≤ length list.old }
-{
-    report_line(rt, plan, queue, list, side, 1, timed)?;
-    report_line(rt, plan, queue, list, side, 10, timed)?;
-    report_line(rt, plan, queue, list, side, 100, timed)
-}
-
-// The line of one side and one number of marks.
-fn report_line(
-    rt: &HostRuntime,
-    plan: &Plan<Points>,
-    queue: &mut [Entry<Points>],
-    list: &mut [Mark<Points>],
-    side: u16,
-    k: u16,
-    timed: bool,
-) -> io::Result<()>
-    requires sound { Sound points (λ p. p.value) plan.now }
-    requires side { (0 < side) × (side ≤ 1024) }
-    requires places { k ≤ length list.old }
-    ensures { length list.new ≡ length list.old }
-{
-    let start = Instant::now(rt)?;
-    let Ok(totals) = draw_all(plan, queue, list, side, k) else {
-        eprintln!(rt; "bench: a draw was refused")?;
-        return Err(io::ErrorKind::Other.into());
-    };
-    let time = start.elapsed(rt)?;
-    print!(rt;
-        "w {side} k {k} listed {} sum {} opened {}",
-        totals.listed, totals.sum, totals.opened
-    )?;
-    if timed {
-        let tenths = time.as_micros() / 200;
-        print!(rt; " microseconds {}.{}", tenths / 10, tenths % 10)?;
-    }
-    println!(rt)
-}
-
-// Draws windows of `side` by `side` cells with `k` marks each.
-fn draw_all(
-    plan: &Plan<Points>,
-    queue: &mut [Entry<Points>],
-    list: &mut [Mark<Points>],
-    side: u16,
-    k: u16,
-) -> Result<Totals, DrawRefusal>
-    requires sound { Sound points (λ p. p.value) plan.now }
-    requires side { (0 < side) × (side ≤ 1024) }
-    requires places { k ≤ length list.old }
-    ensures { length list.new ≡ length list.old }
-{
-    let mut numbers = Generator {
-        state: 99 + u64::from(side) * 1000 + u64::from(k),
-    };
-    let mut totals = Totals {
-        listed: 0,
-        sum: 0,
-        opened: 0,
-    };
-    for _ in 0..WINDOWS {
-        let window = place_window(&mut numbers, side);
-        let drawn = draw(plan, window, queue, &mut list[0..usize::from(k)])?;
-        totals.listed = totals.listed.wrapping_add(drawn.listed as u64);
-        totals.opened = totals.opened.wrapping_add(u64::from(drawn.opened));
-        for mark in list.iter().take(drawn.listed) {
-            totals.sum = totals.sum.wrapping_add(u64::from(mark.grade.value));
+impl Bench<'_> {
+    // Draws windows of `side` by `side` cells with `k` marks each, and prints what the draws come to.
+    fn report(&mut self, rt: &HostRuntime, side: u16, k: u16, timed: bool) -> io::Result<()>
+        requires side { (0 < side) × (side ≤ 1024) }
+        requires places { k ≤ 100 }
+    {
+        let start = Instant::now(rt)?;
+        let Ok(totals) = self.draw_all(side, k) else {
+            eprintln!(rt; "bench: a draw was refused")?;
+            return Err(io::ErrorKind::Other.into());
+        };
+        let time = start.elapsed(rt)?;
+        print!(rt;
+            "w {side} k {k} listed {} sum {} opened {}",
+            totals.listed, totals.sum, totals.opened
+        )?;
+        if timed {
+            let tenths = time.as_micros() / 200;
+            print!(rt; " microseconds {}.{}", tenths / 10, tenths % 10)?;
         }
+        println!(rt)
     }
-    Ok(totals)
-}
 
-// A window of `side` by `side` cells, where the generator puts it; one that is as large as the plan has one place only.
-fn place_window(numbers: &mut Generator, side: u16) -> Window
-    requires { (0 < side) × (side ≤ 1024) }
-{
-    let mut top = 0;
-    let mut left = 0;
-    if side < SIDE {
-        let free = u32::from(SIDE - side);
-        top = numbers.below(free);
-        left = numbers.below(free);
-    }
-    Window {
-        top,
-        left,
-        bottom: top + (side - 1),
-        right: left + (side - 1),
+    // What the draws come to.
+    fn draw_all(&mut self, side: u16, k: u16) -> Result<Totals, DrawRefusal>
+        requires side { (0 < side) × (side ≤ 1024) }
+        requires places { k ≤ 100 }
+    {
+        let mut numbers = Generator {
+            state: 99 + u64::from(side) * 1000 + u64::from(k),
+        };
+        let mut totals = Totals::default();
+        let plan = self.plan;
+        let queue = &mut *self.queue;
+        let places = &mut self.list[..];
+        let list = &mut places[..usize::from(k)];
+        for _ in 0..WINDOWS {
+            let window = numbers.window(side);
+            let drawn = draw(plan, window, queue, list)?;
+            totals.add(drawn, list);
+        }
+        Ok(totals)
     }
 }

@@ -2,8 +2,6 @@
 #![tactic(auto)]
 
 ghost use Rattle.std.specs.Prelude.{◌≤◌, length, IfOk};
-ghost use Rattle.grade.specs.Kinds.{points};
-ghost use Rattle.plan.specs.Plans.{Sound};
 
 use book::first_line;
 use grade::points::Points;
@@ -28,11 +26,7 @@ fn read_input(rt: &HostRuntime, buffer: &mut [u8]) -> io::Result<usize>
     ensures { IfOk result (λ n. n ≤ length buffer.old) }
 {
     let mut filled = 0;
-    // A turn that goes on has read a byte or more, so that no book needs more turns than these.
-    for _ in 0..LONGEST {
-        if filled >= buffer.len() {
-            break;
-        }
+    while filled < buffer.len() {
         let count = rt.stdin().read(&mut buffer[filled..])?;
         if count == 0 {
             break;
@@ -43,9 +37,7 @@ fn read_input(rt: &HostRuntime, buffer: &mut [u8]) -> io::Result<usize>
 }
 
 // Prints the answer to each line of a book, in the order of the lines.
-fn run(rt: &HostRuntime, session: &mut Session, book: &[u8]) -> io::Result<()>
-    requires { Sound points (λ p. p.value) session.old.plan }
-{
+fn run(rt: &HostRuntime, session: &mut Session, book: &[u8]) -> io::Result<()> {
     let mut rest = book;
     while let Some((line, after)) = first_line(rest) {
         let reply = session.answer(line);

@@ -85,4 +85,4 @@ Unchanged s t (No n) =
     (t.started ≡ s.started)
     × (t.plan.h ≡ s.plan.h)
     × (t.plan.count ≡ s.plan.count)
-    × (t.plan.places.now ≡ s.plan.places.now)
+    × (t.plan.places ≡ s.plan.places)

@@ -1,10 +1,10 @@
 //! A draw from the plan of a session.
 ghost use Rattle.std.specs.Prelude.{ℕ};
-ghost use Rattle.grade.specs.Kinds.{points};
 ghost use Rattle.boxtree.specs.Squares.{window_of};
-ghost use Rattle.plan.specs.Plans.{Sound};
+ghost use Rattle.session.specs.Refusals.{drawn_or};
 ghost use Rattle.session.specs.Replies.{Drew};
 
+use crate::refusal::Refused;
 use crate::session::Session;
 use book::{DrawnLine, Reply, Unusable};
 use boxtree::mark::Mark;
@@ -22,22 +22,30 @@ impl Session<'_> {
         queue: &mut [Entry<Points>],
         list: &mut [Mark<Points>],
     ) -> Result<DrawnLine, Reply>
-        requires { Sound points (λ p. p.value) self.now.plan }
         ensures { Drew queue.old queue.new list.old list.new self.now (window_of window) k result }
     {
-        if !self.started {
-            return Err(Reply::No(Unusable.number()));
-        }
+        self.drawn(window, k, queue, list).map_err(Reply::from)
+    }
+
+    // Draws, unless that is refused.
+    fn drawn(
+        &self,
+        window: Window,
+        k: u16,
+        queue: &mut [Entry<Points>],
+        list: &mut [Mark<Points>],
+    ) -> Result<DrawnLine, Refused>
+        ensures { Drew queue.old queue.new list.old list.new self.now (window_of window) k (drawn_or result) }
+    {
+        self.check_started()?;
         let asked = usize::from(k);
         if asked > list.len() {
-            return Err(Reply::No(Unusable.number()));
+            return Err(Refused::Line(Unusable));
         }
-        match draw(&self.plan, window, queue, &mut list[0..asked]) {
-            Ok(drawn) => Ok(DrawnLine {
-                listed: drawn.listed,
-                opened: drawn.opened,
-            }),
-            Err(e) => Err(Reply::No(e.number())),
-        }
+        let drawn = draw(&self.plan, window, queue, &mut list[0..asked])?;
+        Ok(DrawnLine {
+            listed: drawn.listed,
+            opened: drawn.opened,
+        })
     }
 }

@@ -3,6 +3,7 @@
 
 mod answer;
 mod drawing;
+mod refusal;
 mod session;
 
 pub use session::Session;
