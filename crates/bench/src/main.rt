@@ -3,12 +3,13 @@
 //! Its first argument is the number of marks. With the second argument `time` it also prints the microseconds of a draw.
 #![tactic(auto)]
 
-ghost use Rattle.std.specs.Prelude.{◌≡◌, ℕ, ◌+◌, ◌*◌, ◌/◌, ◌%◌, ◌^◌, ◌<◌, ◌≤◌, length};
+ghost use Rattle.std.specs.Prelude.{◌<◌, ◌≤◌};
 
 use boxtree::mark::Mark;
 use boxtree::window::Window;
 use draw::{DrawRefusal, Drawn, Entry, draw};
 use grade::points::Points;
+use numbers::Numbers;
 use plan::{Place, Plan};
 use std::time::Instant;
 use std::{env, io};
@@ -24,6 +25,7 @@ const PLACES: usize = 65_535;
 
 // The sides of the windows, and how many marks are drawn of each.
 const SIDES: [u16; 4] = [10, 100, 1000, SIDE];
+
 const COUNTS: [u16; 3] = [1, 10, 100];
 
 // How many places the list has.
@@ -35,44 +37,30 @@ const WINDOWS: u32 = 2_000;
 // The grade with which memory is filled before it is lent.
 const NONE: Points = Points { value: 0 };
 
-// Numbers that follow one another by a fixed rule.
-#[derive(Drop)]
-struct Generator {
-    state: u64,
+// The next number modulo `bound`.
+fn below(numbers: &mut Numbers, bound: u32) -> u16
+    requires { (0 < bound) × (bound ≤ 65536) }
+    ensures { result < bound }
+{
+    (numbers.next() % bound) as u16
 }
 
-impl Generator {
-    // The next number modulo `bound`.
-    fn below(&mut self, bound: u32) -> u16
-        requires { (0 < bound) × (bound ≤ 65536) }
-        ensures value { result ≡ (self.new.state / 2 ^ 33) % bound }
-        ensures state { self.new.state ≡ (self.old.state * 6364136223846793005 + 1442695040888963407) % 2 ^ 64 }
-    {
-        let state = self
-            .state
-            .wrapping_mul(6_364_136_223_846_793_005)
-            .wrapping_add(1_442_695_040_888_963_407);
-        self.state = state;
-        ((state >> 33) % u64::from(bound)) as u16
+// A window of `side` by `side` cells, where the numbers put it; one that is as large as the plan has one place only.
+fn place_window(numbers: &mut Numbers, side: u16) -> Window
+    requires { (0 < side) × (side ≤ 1024) }
+{
+    let mut top = 0;
+    let mut left = 0;
+    if side < SIDE {
+        let free = u32::from(SIDE - side);
+        top = below(numbers, free);
+        left = below(numbers, free);
     }
-
-    // A window of `side` by `side` cells, where the numbers put it; one that is as large as the plan has one place only.
-    fn window(&mut self, side: u16) -> Window
-        requires { (0 < side) × (side ≤ 1024) }
-    {
-        let mut top = 0;
-        let mut left = 0;
-        if side < SIDE {
-            let free = u32::from(SIDE - side);
-            top = self.below(free);
-            left = self.below(free);
-        }
-        Window {
-            top,
-            left,
-            bottom: top + (side - 1),
-            right: left + (side - 1),
-        }
+    Window {
+        top,
+        left,
+        bottom: top + (side - 1),
+        right: left + (side - 1),
     }
 }
 
@@ -98,7 +86,10 @@ impl Totals {
 fn main(rt: HostRuntime) -> io::Result<()> {
     let mut words = env::args(&rt)?;
     words.next();
-    let Some(marks) = words.next().and_then(|word| word.as_str().parse::<u16>().ok()) else {
+    let Some(marks) = words
+        .next()
+        .and_then(|word| word.as_str().parse::<u16>().ok())
+    else {
         return usage(&rt);
     };
     let timed = match words.next() {
@@ -137,16 +128,16 @@ fn usage(rt: &HostRuntime) -> io::Result<()> {
 
 // Enters marks until there are so many. A cell that is marked already is passed over.
 fn fill(plan: &mut Plan<Points>, marks: usize) {
-    let mut numbers = Generator { state: 20_261_117 };
+    let mut numbers = Numbers::new(20_261_117);
     // The numbers are the same in each run, and fill a plan long before these turns are over.
     for _ in 0..u32::MAX {
         if plan.marks() >= marks {
             break;
         }
-        let row = numbers.below(1024);
-        let col = numbers.below(1024);
+        let row = below(&mut numbers, u32::from(SIDE));
+        let col = below(&mut numbers, u32::from(SIDE));
         let grade = Points {
-            value: numbers.below(65_536),
+            value: below(&mut numbers, 65_536),
         };
         let _ = plan.enter(Mark { row, col, grade });
     }
@@ -188,16 +179,14 @@ impl Bench<'_> {
         requires side { (0 < side) × (side ≤ 1024) }
         requires places { k ≤ 100 }
     {
-        let mut numbers = Generator {
-            state: 99 + u64::from(side) * 1000 + u64::from(k),
-        };
+        let mut numbers = Numbers::new(99 + u64::from(side) * 1000 + u64::from(k));
         let mut totals = Totals::default();
         let plan = self.plan;
         let queue = &mut *self.queue;
         let places = &mut self.list[..];
         let list = &mut places[..usize::from(k)];
         for _ in 0..WINDOWS {
-            let window = numbers.window(side);
+            let window = place_window(&mut numbers, side);
             let drawn = draw(plan, window, queue, list)?;
             totals.add(drawn, list);
         }
