@@ -11,6 +11,7 @@ const MOST_DIGITS: usize = 5;
 const MOST_DRAWN: u16 = 256;
 
 /// The command that a line says. A line that says none is refused, and no line says two.
+#[tactic(auto, using(crate::proofs::Commands::one_command))]
 pub fn parse(line: &[u8]) -> Result<Command, Unusable>
     ensures once { OneCommand }
     ensures cases { MatchResult result (λ c. Says line.now c) (λ _. (c : Command) → Says line.now c → ⊥) }

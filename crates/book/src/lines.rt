@@ -4,6 +4,7 @@ ghost use Rattle.book.specs.Lines.{FirstLine, OneSplit, newline};
 
 /// The first line of a text, without the byte 10 that ends it, and the text after that byte. An empty
 /// text has no line.
+#[tactic(auto, using(crate::proofs::Texts::one_split))]
 pub fn first_line(text: &[u8]) -> Option<(&[u8], &[u8])>
     ensures once { OneSplit }
     ensures cases { MatchOption result (text.now ≡ []) (λ p. FirstLine text.now p.0.now p.1.now) }

@@ -2,23 +2,14 @@
 use Rattle.std.proofs.Common.{arith, rules}
 use native.Mathlib.Nat.{sub-zero}
 use Rattle.std.proofs.lemmas.List.{take_rest}
-use Rattle.book.proofs.Texts.{line_before, line_whole, one_split}
+use Rattle.book.proofs.Texts.{line_before, line_whole}
 use Rattle.book.proofs.lines.first_line.Goals as goal
-
-pub returns-then-is_empty-clause-once : goal.returns-then-is_empty-clause-once
-returns-then-is_empty-clause-once c = one_split
-
-pub returns-then-end-text-clause-once : goal.returns-then-end-text-clause-once
-returns-then-end-text-clause-once c = one_split
 
 pub returns-then-end-text-clause-cases : goal.returns-then-end-text-clause-cases
 returns-then-end-text-clause-cases c =
     let end = c.line_end-end in
     let inside = c.if-end-text.true in
     simp (take_rest, sub-zero) (line_before c.args.text.now end.result inside end.ensures.before (end.ensures.found inside))
-
-pub returns-else-end-text-clause-once : goal.returns-else-end-text-clause-once
-returns-else-end-text-clause-once c = one_split
 
 pub returns-else-end-text-clause-cases : goal.returns-else-end-text-clause-cases
 returns-else-end-text-clause-cases c =
