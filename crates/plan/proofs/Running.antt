@@ -1,6 +1,7 @@
 -- A run of calls, one call at a time.
-use Rattle.std.proofs.Common.{◌≡◌, ℕ, ◌+◌, ◌<◌, ◌≤◌, min, List, [], ◌∷◌, ◌++◌, map, length, get_or, take, drop, set, Some, None, Result, sym, refl, ap, ◌∙◌, subst, arith, drop-drop, drop-set-lt}
+use Rattle.std.proofs.Common.{◌≡◌, ℕ, ◌+◌, ◌<◌, ◌≤◌, min, List, [], ◌∷◌, ◌++◌, map, length, get_or, take, drop, set, slice_get, Some, None, Result, ◌⊎◌, inl, inr, sym, refl, ap, ◌∙◌, subst, arith, drop-drop, drop-set-lt}
 use mathlib.Core.List.{map-append}
+use Rattle.std.proofs.lemmas.Option.{slice_get_cases, slice_get_within, get_or_from_slice_get}
 use Rattle.std.proofs.lemmas.List.{take_more, take_more_set}
 use Rattle.grade.specs.Kind.{Kind, Laws}
 use Rattle.treap.specs.Plants.{plant}
@@ -13,6 +14,13 @@ use Rattle.plan.specs.declared.refusal.PlanRefusal.{PlanRefusal}
 use Rattle.plan.specs.Plans.{Layout, Sound, ledger}
 use Rattle.plan.specs.Runs.{call_of, answer_of, carried, Ran}
 use Rattle.plan.proofs.Shapes.{recorded, lawful}
+
+pub none_at : {X : Type 0} (xs : List X) (i : ℕ) → None ≡ slice_get xs i → length xs ≤ i
+none_at xs i e = go (slice_get_cases xs i).1
+  where
+    go : ((x : _) × (i < length xs) × (slice_get xs i ≡ Some x) × (get_or xs i x ≡ x)) ⊎ ((length xs ≤ i) × (slice_get xs i ≡ None)) → length xs ≤ i
+    go (inl h) = let s = h.2 in let z : ◌≡◌ {A = ℕ} 0 1 = cc in absurd (omega arith)
+    go (inr h) = h.0
 
 drop_next : {A : Type 0} (l r : List A) (i : ℕ) → drop i l ≡ drop i r → drop (i + 1) l ≡ drop (i + 1) r
 drop_next l r i e = sym (drop-drop 1 i l) ∙ ap (drop 1) e ∙ drop-drop 1 i r
@@ -49,15 +57,14 @@ pub record Running {G : Type 0} (code : G → ℕ) (l : ledgers.Ledger) (calls :
 module _ {G : Type 0} (code : G → ℕ) (l : ledgers.Ledger) (calls : List (Call G)) (before : List (Result (Answer G) PlanRefusal)) where
   pub one_more_call : (i : ℕ) (p q : Layout (Place G)) (answers : List (Result (Answer G) PlanRefusal)) (c : Call G) (a : Result (Answer G) PlanRefusal)
       → Running code l calls before i p answers
-      → i < length calls
-      → c ≡ get_or calls i c
+      → Some c ≡ slice_get calls i
       → i < length answers
       → answer_of code a ≡ ledgers.answer (ledger code p) (call_of code c)
       → ledger code q ≡ ledgers.next (ledger code p) (call_of code c)
       → Running code l calls before (i + 1) q (set answers i a)
-  one_more_call i p q answers c a r low read high ea el =
+  one_more_call i p q answers c a r read high ea el =
       record {
-        within = omega arith;
+        within = omega (arith, low);
         followed = el ∙ ap (λ (x : ledgers.Ledger). ledgers.next x (call_of code c)) r.followed ∙ sym (after_push l (map (call_of code) (take i calls)) (call_of code c)) ∙ ap (ledgers.after l) (sym grown);
         answered =
             ap (map (answer_of code)) (take_more_set answers i a high)
@@ -69,11 +76,14 @@ module _ {G : Type 0} (code : G → ℕ) (l : ledgers.Ledger) (calls : List (Cal
         beyond = drop-set-lt (i + 1) answers i a (omega arith) ∙ drop_next answers before i r.beyond;
       }
     where
+      low : i < length calls
+      low = slice_get_within calls i c (sym read)
+
       grown : map (call_of code) (take (i + 1) calls) ≡ map (call_of code) (take i calls) ++ call_of code c ∷ []
       grown =
           ap (map (call_of code)) (take_more calls i c low)
           ∙ map-append (call_of code) (take i calls) (get_or calls i c ∷ [])
-          ∙ ap (λ (x : Call G). map (call_of code) (take i calls) ++ call_of code x ∷ []) (sym read)
+          ∙ ap (λ (x : Call G). map (call_of code) (take i calls) ++ call_of code x ∷ []) (get_or_from_slice_get calls i c c (sym read))
 
   pub ran_all : {kind : Kind} → Laws kind → (n : ℕ) (p : Layout (Place G)) (answers : List (Result (Answer G) PlanRefusal)) → Sound kind code p → n ≡ min (length calls) (length before) → Running code l calls before n p answers → Ran kind code l calls before answers p
   ran_all {kind} laws n p answers s e r₀ =

@@ -25,6 +25,10 @@ link_in (suc n) = Some n
 abbrev pub link_of : Link → Option ℕ
 link_of l = link_in l.next
 
+-- the place of a quadrant's box, of the links by their indices
+abbrev pub link_at : List Link → ℕ → Option ℕ
+link_at ls i = link_of (slice_index_or ls i (record { next = 0 }))
+
 abbrev pub Below : ℕ → Option ℕ → Type 0
 Below n None = Unit {0}
 Below n (Some i) = i < n
@@ -33,10 +37,10 @@ abbrev pub cell_of : {G : Type 0} → (G → ℕ) → Place G → Cell
 cell_of code p =
     record {
       mark = spot_of code p.mark;
-      a = link_of p.top_left;
-      b = link_of p.top_right;
-      c = link_of p.bottom_left;
-      d = link_of p.bottom_right;
+      a = link_at p.links 0;
+      b = link_at p.links 1;
+      c = link_at p.links 2;
+      d = link_at p.links 3;
     }
 
 -- a mark with no box below it

@@ -28,32 +28,25 @@ fn child_in<G: Grade>(places: &[Place<G>], here: Place<G>, quadrant: Quadrant) -
     requires { Below (length places.now) (link (quadrant_of quadrant) (cell_of G.Grade.coded here)) }
     ensures { ChildAt (cells G.Grade.coded places.now) (cell_of G.Grade.coded here) (quadrant_of quadrant) (children_of G.Grade.coded result) }
 {
-    match here.link(quadrant) {
-        None => None,
-        Some(place) => {
-            let there = read(places, place);
-            Some(Child {
-                quadrant,
-                place,
-                mark: there.mark,
-            })
-        }
-    }
+    let place = here.link(quadrant)?;
+    Some(Child {
+        quadrant,
+        place,
+        mark: read(places, place).mark,
+    })
 }
 
 // The one of two boxes whose mark outranks the other's.
 fn better<G: Grade>(first: Option<Child<G>>, second: Option<Child<G>>) -> Option<Child<G>>
     ensures { Better G.Grade.kind (children_of G.Grade.coded first) (children_of G.Grade.coded second) (children_of G.Grade.coded result) }
 {
-    match first {
-        None => second,
-        Some(x) => match second {
-            None => Some(x),
-            Some(y) => if y.mark.outranks(x.mark) {
-                Some(y)
-            } else {
-                Some(x)
-            },
+    match (first, second) {
+        (None, _) => second,
+        (_, None) => first,
+        (Some(x), Some(y)) => if y.mark.outranks(x.mark) {
+            second
+        } else {
+            first
         },
     }
 }
@@ -63,14 +56,11 @@ fn best_child<G: Grade>(places: &[Place<G>], here: Place<G>) -> Option<Child<G>>
     requires { Linked (length places.now) (cell_of G.Grade.coded here) }
     ensures { Best G.Grade.kind (cells G.Grade.coded places.now) (cell_of G.Grade.coded here) (children_of G.Grade.coded result) }
 {
-    let top_left = child_in(places, here, Quadrant::TopLeft);
-    let top_right = child_in(places, here, Quadrant::TopRight);
-    let bottom_left = child_in(places, here, Quadrant::BottomLeft);
-    let bottom_right = child_in(places, here, Quadrant::BottomRight);
-    better(
-        better(top_left, top_right),
-        better(bottom_left, bottom_right),
-    )
+    let mut best = None;
+    for q in Quadrant::ALL {
+        best = better(best, child_in(places, here, q));
+    }
+    best
 }
 
 // What is left of a tree once a mark is taken out of it: the place of its root, and the place that is now free.

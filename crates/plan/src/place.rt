@@ -40,10 +40,8 @@ impl Link {
 #[derive(Clone, Copy)]
 pub struct Place<G> {
     pub(crate) mark: Mark<G>,
-    pub(crate) top_left: Link,
-    pub(crate) top_right: Link,
-    pub(crate) bottom_left: Link,
-    pub(crate) bottom_right: Link,
+    // of its quadrants, by their indices
+    pub(crate) links: [Link; 4],
 }
 
 impl<G: Grade> Place<G> {
@@ -62,13 +60,9 @@ impl<G: Grade> Place<G> {
     pub(crate) fn leaf(mark: Mark<G>) -> Place<G>
         ensures { cell_of G.Grade.coded result ≡ leaf_of (spot_of G.Grade.coded mark) }
     {
-        let none = Link::new(None);
         Place {
             mark,
-            top_left: none,
-            top_right: none,
-            bottom_left: none,
-            bottom_right: none,
+            links: [Link::new(None); 4],
         }
     }
 
@@ -76,12 +70,7 @@ impl<G: Grade> Place<G> {
     pub(crate) fn link(self, q: Quadrant) -> Option<u16>
         ensures { result ≡ link_to (quadrant_of q) (cell_of G.Grade.coded self) }
     {
-        match q {
-            Quadrant::TopLeft => self.top_left.place(),
-            Quadrant::TopRight => self.top_right.place(),
-            Quadrant::BottomLeft => self.bottom_left.place(),
-            Quadrant::BottomRight => self.bottom_right.place(),
-        }
+        self.links[q as usize].place()
     }
 
     // The place with another mark, and another box in one quadrant.
@@ -89,29 +78,9 @@ impl<G: Grade> Place<G> {
         requires { Below 65535 place }
         ensures { cell_of G.Grade.coded result ≡ relink (quadrant_of q) (cell_of G.Grade.coded self) (spot_of G.Grade.coded mark) place }
     {
-        let link = Link::new(place);
-        match q {
-            Quadrant::TopLeft => Place {
-                mark,
-                top_left: link,
-                ..self
-            },
-            Quadrant::TopRight => Place {
-                mark,
-                top_right: link,
-                ..self
-            },
-            Quadrant::BottomLeft => Place {
-                mark,
-                bottom_left: link,
-                ..self
-            },
-            Quadrant::BottomRight => Place {
-                mark,
-                bottom_right: link,
-                ..self
-            },
-        }
+        let mut links = self.links;
+        links[q as usize] = Link::new(place);
+        Place { mark, links }
     }
 }
 

@@ -1,5 +1,5 @@
 //! Calls as values, and runs of them.
-ghost use Rattle.std.specs.Prelude.{◌≡◌, ℕ, min, length};
+ghost use Rattle.std.specs.Prelude.{◌≡◌, ℕ, min, length, slice_get};
 ghost use Rattle.treap.specs.Ledgers.{answer, next};
 ghost use Rattle.plan.specs.Plans.{ledger, Kept};
 ghost use Rattle.plan.specs.Runs.{call_of, answer_of, Ran, Told};
@@ -48,6 +48,13 @@ impl<G: Grade> Plan<'_, G> {
     }
 }
 
+// The call `i`, if there are so many.
+fn call_at<G: Copy>(calls: &[Call<G>], i: usize) -> Option<Call<G>>
+    ensures { result ≡ slice_get calls.now i }
+{
+    calls.get(i).copied()
+}
+
 /// Carries out calls one after another, whichever of them are refused, and writes down what each is answered: as many calls
 /// as there are answers to fill. Answers how many that are.
 pub fn carry_out<G: Grade>(
@@ -60,10 +67,10 @@ pub fn carry_out<G: Grade>(
 {
     // by an index, since of what a `zip` with `iter_mut` writes nothing is known
     for (i, answer) in answers.iter_mut().enumerate() {
-        let Some(call) = calls.get(i) else {
+        let Some(call) = call_at(calls, i) else {
             break;
         };
-        *answer = plan.call(*call);
+        *answer = plan.call(call);
     }
     // what the plan shows is lawful, as its boxes tell
     let _ = plan.boxes();
