@@ -129,7 +129,7 @@ fn usage(rt: &HostRuntime) -> io::Result<()> {
 // Enters marks until there are so many. A cell that is marked already is passed over.
 fn fill(plan: &mut Plan<Points>, marks: usize) {
     let mut numbers = Numbers::new(20_261_117);
-    // The numbers are the same in each run, and fill a plan long before these turns are over.
+    // Turns are counted so that the loop is seen to end; the numbers fill a plan long before they are over.
     for _ in 0..u32::MAX {
         if plan.marks() >= marks {
             break;

@@ -14,6 +14,7 @@ pub enum Reply {
     /// There is no mark on the cell: `vacant`.
     Vacant,
     /// The command was refused, for the reason of this number: `no 24`.
+    // The number and no error enum: it is all that a line tells, and a line knows of no other crate's reasons.
     No(u8),
 }
 
@@ -32,6 +33,7 @@ impl fmt::Display for Reply {
 
 /// The first line of a draw: so many marks are drawn, for which so many boxes were opened: `drawn 1 opened 3`. A line for each
 /// mark follows.
+// Made by its fields and not by `From` of a draw's answer: what lines are written does not hang on box trees.
 #[derive(Clone, Copy, PartialEq, Eq, Debug)]
 pub struct DrawnLine {
     pub listed: usize,

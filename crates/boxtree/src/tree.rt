@@ -26,6 +26,7 @@ pub trait BoxTree {
         ensures { result ≡ number (shown self.now).tree };
 
     /// The box in quadrant `q` of the box `b`, if there is one: 0 top left, 1 top right, 2 bottom left, 3 bottom right.
+    // An index and no `Quadrant`: that one above 3 is refused is a rule of box trees.
     fn child(&self, b: u32, q: u8) -> Result<Option<u32>, Absent>
         ensures { result ≡ child_of q (find b (shown self.now).tree) };
 

@@ -16,6 +16,7 @@ pub trait Grade: Copy {
     ghost coded: { Self → ℕ };
 
     /// The number of the kind, 1 to 255, which no other kind has.
+    // A number and no enum: it is what sheets hold, and any crate may add a kind.
     fn kind_number() -> u8
         ensures { result ≡ kind.number };
 

@@ -14,6 +14,7 @@ use std::io::Read;
 const LONGEST: usize = 65_536;
 
 fn main(rt: HostRuntime) -> io::Result<()> {
+    // An array and no `Vec`: the program allocates nothing.
     let mut buffer = [0; LONGEST];
     let filled = read_input(&rt, &mut buffer)?;
     let mut places = [Place::vacant(Points { value: 0 }); 256];

@@ -10,6 +10,7 @@ use std::marker::Model;
 /// one path of the heap, so it makes at most as many exchanges as the binary logarithm of `len`, the entry itself counted.
 #[derive(Drop)]
 pub struct Queue<'a, E: Ranked> {
+    // Lent slots and their number in use, and no `Vec`: the library allocates nothing.
     slots: &'a mut [E],
     len: usize,
 }

@@ -6,5 +6,6 @@ use plan::Plan;
 #[derive(Drop)]
 pub struct Session<'a> {
     pub(crate) plan: Plan<'a, Points>,
+    // A flag and no `Option` of the plan: the plan has the places that were lent, and keeps them while none is opened.
     pub(crate) started: bool,
 }
