@@ -1,5 +1,5 @@
 -- What the tree of a plan has under a number: the box of that place, or none where there are not so many.
-use Rattle.std.proofs.Common.{◌≡◌, ℕ, zero, suc, List, Some, None, Ok, Option, sym, refl, ap, ◌∙◌, inl, inr, arith, true, false, ltb}
+use Rattle.std.proofs.Common.{◌≡◌, ℕ, zero, suc, ◌≤◌, le-ltb, List, Some, None, Ok, Err, Option, sym, refl, ap, ◌∙◌, inl, inr, arith, true, false, ltb}
 use Rattle.grade.specs.Kind.{Kind}
 use Rattle.treap.specs.Spots.{Spot}
 use Rattle.treap.specs.Trees.{Quadrant, tl, tr, bl, br, index, Square, quadrant, Tree, none, box, pick, number, sub, find, Hangs, Ordered}
@@ -10,7 +10,7 @@ use Rattle.treap.proofs.Shown.{hangs}
 use Rattle.treap.proofs.Needed.{part_lawful}
 use Rattle.treap.proofs.Find.{Found, found}
 use Rattle.treap.proofs.Held.{unheld_none, none_unheld}
-use Rattle.boxtree.specs.Answers.{child_of, mark_of}
+use Rattle.boxtree.specs.Answers.{absent, child_of, mark_of}
 use Rattle.plan.specs.declared.place.Place.{Place}
 use Rattle.plan.specs.Places.{Cell, cell_of, cells, link, tree_at}
 use Rattle.plan.specs.Standing.{tree_in}
@@ -50,6 +50,11 @@ module _ (at : ℕ → Cell) where
   child_is r b tr = ap Ok (number_at r.level at (at b).b)
   child_is r b bl = ap Ok (number_at r.level at (at b).c)
   child_is r b br = ap Ok (number_at r.level at (at b).d)
+
+-- no box has a child past the fourth quadrant
+pub child_past : (t : Tree) (q : ℕ) {m : Spot} → Ok m ≡ mark_of t → 4 ≤ q → Err absent ≡ child_of q t
+child_past none q e h = let z : ◌≡◌ {A = ℕ} 0 1 = cc in absurd (omega arith)
+child_past (box i m a b c d) q e h = rw (le-ltb q 4 h)
 
 module _ {G : Type 0} {kind : Kind} {code : G → ℕ} {h n : ℕ} {ps : List (Place G)} (s : Shape kind code h n ps) (b : ℕ) where
   pub box_past : ltb b n ≡ false → find b (plan_tree code h n ps) ≡ none

@@ -1,10 +1,10 @@
 -- What an accepted and a refused call come to, and a plan that is opened.
-use Rattle.std.proofs.Common.{◌≡◌, ℕ, Bool, true, false, cond, ◌||◌, eqb, ltb, List, length, is_some, Some, None, Option, sym, refl, ap, ◌∙◌, subst, arith, ltb-false, le-ltb}
+use Rattle.std.proofs.Common.{◌≡◌, ℕ, Bool, true, false, cond, ◌||◌, eqb, ltb, List, length, is_some, Some, None, Option, sym, refl, ap, subst, arith, ltb-false, le-ltb}
 use Rattle.grade.specs.Kind.{Kind}
 use Rattle.treap.specs.Spots.{Spot}
 use Rattle.treap.specs.Trees.{Square}
 use Rattle.treap.specs.Sums.{one_if, grade_in}
-use Rattle.treap.specs.Ledgers.{Ledger, Call, refused, open_refusal, refusal, accepted, answer, answer_as, next, next_as}
+use Rattle.treap.specs.Ledgers.{open_refusal}
 use Rattle.treap.specs.Entries.{plan_square}
 use Rattle.treap.proofs.Cells.{shown_graded, free_ungraded}
 use Rattle.boxtree.specs.declared.mark.Mark.{Mark}
@@ -12,22 +12,7 @@ use Rattle.boxtree.specs.Marks.{spots_of}
 use Rattle.plan.specs.declared.place.Place.{Place}
 use Rattle.plan.specs.Places.{cells}
 use Rattle.plan.specs.Standing.{tree_in, Found, grade_of}
-use Rattle.plan.specs.Plans.{root, plan_tree, Shape, ledger_at, Done}
-
-module _ {G : Type 0} {kind : Kind} {code : G → ℕ} {h n : ℕ} {l : Ledger} {c : Call} {qs : List (Place G)} (d : Done kind code h n l c qs) where
-  pub done_answer : accepted l c ≡ answer l c
-  done_answer = ap (answer_as l c) (sym d.accepts)
-
-  pub done_next : ledger_at code h n qs ≡ next l c
-  done_next = d.next_is ∙ ap (next_as l c) (sym d.accepts)
-
--- a refused call leaves the ledger
-module _ (l : Ledger) (c : Call) (x : ℕ) (e : refusal l c ≡ Some x) where
-  pub refused_answer : refused x ≡ answer l c
-  refused_answer = ap (answer_as l c) (sym e)
-
-  pub refused_next : l ≡ next l c
-  refused_next = ap (next_as l c) (sym e)
+use Rattle.plan.specs.Plans.{root, plan_tree, Shape}
 
 module _ {G : Type 0} {kind : Kind} {code : G → ℕ} {h n : ℕ} {ps : List (Place G)} (s : Shape kind code h n ps) where
   -- the grade of a cell is that of the mark that is found there

@@ -90,9 +90,6 @@ unnot false e = sym e
 module _ (l : Ledger) (m : Spot) where
   -- a refusal to strike is a refusal to regrade
   module _ (x : ℕ) (e : refused x ≡ answer l (strike m.row m.col)) where
-    pub unstruck_answer : refused x ≡ answer l (regrade m)
-    unstruck_answer = ap (answer_as l (regrade m)) (sym (refused_strike l m.row m.col x e))
-
     pub unstruck_next : {k : Ledger} → k ≡ next l (strike m.row m.col) → k ≡ next l (regrade m)
     unstruck_next n = n ∙ ap (next_as l (strike m.row m.col)) (refused_strike l m.row m.col x e) ∙ ap (next_as l (regrade m)) (sym (refused_strike l m.row m.col x e))
 

@@ -3,17 +3,17 @@ use Rattle.std.proofs.Common.{◌≡◌, ℕ, zero, suc, ◌+◌, ◌-◌, ◌<�
 use Rattle.grade.specs.Kind.{Kind}
 use Rattle.treap.specs.Spots.{Spot}
 use Rattle.treap.specs.Trees.{Square, Tree, Shows, Ordered}
-use Rattle.treap.specs.Sums.{one_if, mark_sum, at_cell, in_cell, held, Alone, grade_in}
+use Rattle.treap.specs.Sums.{one_if, mark_sum, at_cell, held, Alone, grade_in}
 use Rattle.treap.specs.Ledgers.{Ledger, strike, graded, accepted, refusal, changed}
 use Rattle.treap.specs.Entries.{plan_square}
 use Rattle.treap.specs.Changes.{Loses}
 use Rattle.treap.proofs.Counts.{one_is, none_is, one_if_le}
 use Rattle.treap.proofs.Shown.{shown_holds}
-use Rattle.treap.proofs.Cells.{shown_graded, free_ungraded, lost, count_sum}
+use Rattle.treap.proofs.Cells.{shown_graded, lost, count_sum}
 use Rattle.plan.specs.declared.place.Place.{Place}
 use Rattle.plan.specs.Places.{cells}
 use Rattle.plan.specs.Standing.{tree_in, Stands, Lifted, Moves, Moved}
-use Rattle.plan.specs.Plans.{root, plan_tree, Shape, ledger_at, on_plan, Done}
+use Rattle.plan.specs.Plans.{root, plan_tree, Shape, ledger_at, Done}
 use Rattle.plan.proofs.Shapes.{fits_whole, stands_whole, whole_inside, one_more}
 
 some_root : (n : ℕ) → 1 ≤ n → root n ≡ Some 0
@@ -24,13 +24,6 @@ some_root (suc n) h = refl
 rooted_at : {G : Type 0} (code : G → ℕ) (h n : ℕ) (ps : List (Place G)) (m : Spot) → Shows (plan_tree code h n ps) m → root n ≡ Some 0
 rooted_at code h zero ps m e = absurd e
 rooted_at code h (suc n) ps m e = refl
-
-pub strike_off : (l : Ledger) (row col : ℕ) → on_plan l.level row col ≡ false → refusal l (strike row col) ≡ Some 4
-strike_off l row col e = rw e
-
-pub strike_vacant : {G : Type 0} (code : G → ℕ) (h n : ℕ) (ps : List (Place G)) (row col : ℕ) → on_plan h row col ≡ true → in_cell row col (plan_tree code h n ps) ≡ 0
-    → refusal (ledger_at code h n ps) (strike row col) ≡ Some 6
-strike_vacant code h n ps row col on f = let e : grade_in row col (plan_tree code h n ps) ≡ None = free_ungraded row col (plan_tree code h n ps) f in rw (on, e)
 
 -- a mark m that the plan shows
 module _ {G : Type 0} {kind : Kind} {code : G → ℕ} {h n : ℕ} {ps : List (Place G)} (s : Shape kind code h n ps) (m : Spot) (shown : Shows (plan_tree code h n ps) m) where
