@@ -8,7 +8,8 @@ use boxtree::mark::Mark;
 use boxtree::quadrant::Quadrant;
 use grade::Grade;
 
-// The place of a box, or none, in 16 bits: 0 is none, and any other number is one more than the place.
+// The place of a box, or none, in 16 bits: 0 is none, and any other number is one more than the place. An `Option<u16>` would take
+// twice as many, and a box that owns those below it would need a heap, of which the library has none.
 #[derive(Clone, Copy)]
 pub(crate) struct Link {
     next: u16,
@@ -28,11 +29,7 @@ impl Link {
     pub(crate) fn place(self) -> Option<u16>
         ensures { result ≡ link_of self }
     {
-        if self.next == 0 {
-            None
-        } else {
-            Some(self.next - 1)
-        }
+        self.next.checked_sub(1)
     }
 }
 

@@ -22,19 +22,14 @@ pub(crate) fn relocate<G: Grade>(
     requires { Moves G.Grade.kind (square_of square) (length places.old) (cells G.Grade.coded places.old) (spot_of G.Grade.coded mark) from to (tree_in (square_of square) (cells G.Grade.coded places.old) root) }
     ensures { Moved G.Grade.kind (square_of square) from to (cells G.Grade.coded places.old) root (cells G.Grade.coded places.new) result }
 {
-    match root {
-        None => None,
-        Some(i) => {
-            let here = read(places, i);
-            if i == from {
-                write(places, to, here);
-                Some(to)
-            } else {
-                let q = square.quadrant_at(mark.cell());
-                let below = relocate(places, here.link(q), square.part(q), mark, from, to);
-                write(places, i, here.relinked(here.mark, q, below));
-                Some(i)
-            }
-        }
+    let i = root?;
+    let here = read(places, i);
+    if i == from {
+        write(places, to, here);
+        return Some(to);
     }
+    let q = square.quadrant_at(mark.cell());
+    let below = relocate(places, here.link(q), square.part(q), mark, from, to);
+    write(places, i, here.relinked(here.mark, q, below));
+    Some(i)
 }

@@ -24,16 +24,10 @@ pub(crate) fn seek<G: Grade>(
     requires stands { Stands G.Grade.kind (square_of square) (length places.now) (tree_in (square_of square) (cells G.Grade.coded places.now) root) }
     ensures { Found cell.row cell.col (tree_in (square_of square) (cells G.Grade.coded places.now) root) (spots_of G.Grade.coded result) }
 {
-    match root {
-        None => None,
-        Some(i) => {
-            let here = read(places, i);
-            if stands_in(here.mark, cell) {
-                Some(here.mark)
-            } else {
-                let q = square.quadrant_at(cell);
-                seek(places, here.link(q), square.part(q), cell)
-            }
-        }
+    let here = read(places, root?);
+    if stands_in(here.mark, cell) {
+        return Some(here.mark);
     }
+    let q = square.quadrant_at(cell);
+    seek(places, here.link(q), square.part(q), cell)
 }
