@@ -1,39 +1,60 @@
 //! Calls and answers in plain numbers, and trials of calls on a plan, one after another.
-ghost use Rattle.std.specs.Prelude.{◌≡◌, ◌<◌, length};
-ghost use Rattle.grade.specs.Kinds.{points};
-ghost use Rattle.plan.specs.Plans.{Sound};
-
 use boxtree::mark::Mark;
 use grade::Grade;
+use grade::monument::{BadGrade, Monument};
 use grade::points::Points;
-use plan::{Answer, Call, Plan};
+use plan::{Answer, Call, Plan, PlanRefusal};
+use refusals::Refusal;
 use std::process::Abort;
-use std::test::Fail;
 
-// What a call is answered: a grade by its code, a refusal by its number.
-#[derive(Clone, Copy, PartialEq, Debug)]
+// The number of a refusal, or none.
+pub(crate) fn refusal<T: Drop, E: Refusal>(answer: Result<T, E>) -> Option<u8> {
+    answer.err().map(E::number)
+}
+
+// What a call that is not refused is answered, a grade by its code.
+#[derive(Clone, Copy, PartialEq, Eq, Debug)]
 pub(crate) enum Seen {
     Done,
     Graded(u16),
     Vacant,
-    Refused(u8),
 }
 
-pub(crate) fn in_numbers<G: Grade>(answer: Answer<G>) -> Seen {
-    match answer {
-        Answer::Done => Seen::Done,
-        Answer::Grade(grade) => Seen::Graded(grade.code()),
-        Answer::Vacant => Seen::Vacant,
-        Answer::Refused(e) => Seen::Refused(e.number()),
+impl<G: Grade> From<Answer<G>> for Seen {
+    fn from(answer: Answer<G>) -> Seen {
+        match answer {
+            Answer::Done => Seen::Done,
+            Answer::Grade(grade) => Seen::Graded(grade.code()),
+            Answer::Vacant => Seen::Vacant,
+        }
     }
+}
+
+// What a call is answered, a refusal by its number.
+pub(crate) fn in_numbers<G: Grade>(answer: Result<Answer<G>, PlanRefusal>) -> Result<Seen, u8> {
+    answer.map(Seen::from).map_err(PlanRefusal::number)
+}
+
+pub(crate) fn points(value: u16) -> Points {
+    Points { value }
 }
 
 pub(crate) fn mark(row: u16, col: u16, value: u16) -> Mark<Points> {
     Mark {
         row,
         col,
-        grade: Points { value },
+        grade: points(value),
     }
+}
+
+pub(crate) fn monument(
+    row: u16,
+    col: u16,
+    class: u16,
+    year: u16,
+) -> Result<Mark<Monument>, BadGrade> {
+    let grade = Monument::new(class, year)?;
+    Ok(Mark { row, col, grade })
 }
 
 pub(crate) fn enter(row: u16, col: u16, value: u16) -> Call<Points> {
@@ -53,52 +74,23 @@ pub(crate) fn look(row: u16, col: u16) -> Call<Points> {
 }
 
 // A call, and what it should be answered.
-#[derive(Clone, Copy)]
-pub(crate) struct Step<G> {
-    pub(crate) call: Call<G>,
-    pub(crate) answer: Seen,
-}
-
-pub(crate) fn gives<G: Copy>(call: Call<G>, answer: Seen) -> Step<G> {
-    Step { call, answer }
-}
-
-fn step_at<G: Copy>(steps: &[Step<G>], i: usize) -> Step<G>
-    requires { i < length steps.now }
-{
-    steps[i]
-}
+pub(crate) type Step<G> = (Call<G>, Result<Seen, u8>);
 
 // Carries out the calls and compares each answer with the one expected.
-pub(crate) fn expect<G: Grade>(
-    rt: &impl Abort,
-    plan: &mut Plan<'_, G>,
-    steps: &[Step<G>],
-) -> Result<(), Fail>
-    requires { Sound G.Grade.kind G.Grade.coded plan.old }
-    ensures { Sound G.Grade.kind G.Grade.coded plan.new }
-{
-    for i in 0..steps.len() {
-        let wanted = step_at(steps, i);
-        assert_eq!(rt;
-            in_numbers(plan.call(wanted.call)),
-            wanted.answer,
-            "step {i}"
-        );
+pub(crate) fn expect<G: Grade>(rt: &impl Abort, plan: &mut Plan<'_, G>, steps: &[Step<G>]) {
+    for (i, (call, wanted)) in steps.iter().enumerate() {
+        assert_eq!(rt; in_numbers(plan.call(*call)), *wanted, "step {i}");
     }
-    Ok(())
 }
 
-// The grades of the cells of a plan of side 4, row by row, and none where a cell is vacant.
-pub(crate) fn grades(plan: &Plan<'_, Points>) -> Result<[Option<u16>; 16], Fail>
-    requires { Sound points (λ g. g.value) plan.now }
-{
-    let mut grades = [None; 16];
-    for i in 0..16u16 {
-        match plan.look(i / 4, i % 4) {
-            Ok(Some(grade)) => grades[i as usize] = Some(grade.value),
-            Ok(None) => {}
-            Err(_) => return Err(Fail::new("a cell of the plan is off it")),
+// The grades of the cells of a plan of a side, row by row, and none where a cell is vacant.
+pub(crate) fn grades<const SIDE: usize>(
+    plan: &Plan<'_, Points>,
+) -> Result<[[Option<u16>; SIDE]; SIDE], PlanRefusal> {
+    let mut grades = [[None; SIDE]; SIDE];
+    for (row, cells) in (0..u16::MAX).zip(grades.iter_mut()) {
+        for (col, cell) in (0..u16::MAX).zip(cells.iter_mut()) {
+            *cell = plan.look(row, col)?.map(|grade| grade.value);
         }
     }
     Ok(grades)

@@ -1,8 +1,4 @@
 //! Draws from a plan: what is listed, how many boxes are opened, and which draws are refused.
-ghost use Rattle.std.specs.Prelude.{◌<◌, length};
-ghost use Rattle.grade.specs.Kinds.{points};
-ghost use Rattle.plan.specs.Plans.{Sound};
-
 use crate::answers::*;
 use crate::small::enter_marks;
 use boxtree::mark::Mark;
@@ -12,6 +8,7 @@ use draw::{Entry, draw};
 use grade::Grade;
 use grade::points::Points;
 use plan::{Place, Plan};
+use std::alloc::{AllocError, Global};
 use std::process::Abort;
 use std::test::Fail;
 
@@ -25,120 +22,120 @@ pub(crate) fn window(top: u16, left: u16, bottom: u16, right: u16) -> Window {
 }
 
 // A mark in plain numbers: its row, its column and the code of its grade.
-pub(crate) fn numbers<G: Grade>(mark: Mark<G>) -> [u16; 3] {
-    let grade = mark.grade;
-    [mark.row, mark.col, grade.code()]
+pub(crate) fn as_numbers<G: Grade>(mark: Mark<G>) -> [u16; 3] {
+    [mark.row, mark.col, mark.grade.code()]
 }
 
-fn mark_at<G: Grade>(list: &[Mark<G>], i: usize) -> Mark<G>
-    requires { i < length list.now }
-{
-    list[i]
-}
-
-// What stands in the first eight places of a list, and none where it has no such place.
-pub(crate) fn standing<G: Grade>(list: &[Mark<G>]) -> [Option<[u16; 3]>; 8] {
-    let mut marks = [None; 8];
-    for i in 0..8usize {
-        if i < list.len() {
-            marks[i] = Some(numbers(mark_at(list, i)));
-        }
-    }
-    marks
-}
-
-// Draws from the tree, and compares the count, the list and what stands beyond the listed with what is expected.
-pub(crate) fn draws<T: BoxTree>(
-    rt: &impl Abort,
-    tree: &T,
+// A window, and what a draw of it should give: the marks that are listed, and how many boxes are opened.
+#[derive(Clone, Copy)]
+pub(crate) struct Case<'a> {
     window: Window,
-    queue: &mut [Entry<T::G>],
-    list: &mut [Mark<T::G>],
-    wanted: &[[u16; 3]],
+    marks: &'a [[u16; 3]],
     opened: u32,
-) -> Result<(), Fail>
-    requires { T.BoxTree.sound tree.now }
-{
-    let mut expected = standing(list);
-    for i in 0..8usize {
-        if i < wanted.len() {
-            expected[i] = Some(wanted[i]);
+}
+
+impl Case<'_> {
+    pub(crate) fn new(window: Window, marks: &[[u16; 3]], opened: u32) -> Case<'_> {
+        Case {
+            window,
+            marks,
+            opened,
         }
-    }
-    match draw(tree, window, queue, list) {
-        Ok(drawn) => {
-            assert_eq!(rt; drawn.listed, wanted.len());
-            assert_eq!(rt; drawn.opened, opened);
-            assert_eq!(rt; standing(list), expected);
-            Ok(())
-        }
-        Err(_) => Err(Fail::new("refused")),
     }
 }
 
-// Draws up to eight marks from a plan of at most five.
+// What is lent to draws.
+#[derive(Drop)]
+pub(crate) struct Lent<'a, G: Grade> {
+    pub(crate) queue: &'a mut [Entry<G>],
+    pub(crate) list: &'a mut [Mark<G>],
+}
+
+impl<G: Grade> Lent<'_, G> {
+    // What stands in the list.
+    fn listed(&self, alloc: Global) -> Result<Vec<[u16; 3]>, AllocError> {
+        self.list.iter().copied().map(as_numbers).collect(alloc)
+    }
+
+    // Draws from the tree, and compares the counts, the list and what stands beyond the listed with what is expected.
+    pub(crate) fn draws<T: BoxTree<G = G>>(
+        &mut self,
+        rt: &(impl Abort + AllocGlobal),
+        tree: &T,
+        case: Case<'_>,
+    ) -> Result<(), Fail> {
+        let mut expected = self.listed(rt.alloc())?;
+        for (place, mark) in expected.iter_mut().zip(case.marks) {
+            *place = *mark;
+        }
+        let drawn = draw(tree, case.window, self.queue, self.list)?;
+        assert_eq!(rt; drawn.listed, case.marks.len());
+        assert_eq!(rt; drawn.opened, case.opened);
+        assert_eq!(rt; self.listed(rt.alloc())?, expected);
+        Ok(())
+    }
+}
+
+// Draws up to so many marks from a plan of at most five.
 fn lists(
-    rt: &impl Abort,
+    rt: &(impl Abort + AllocGlobal),
     plan: &Plan<'_, Points>,
-    window: Window,
     k: usize,
-    wanted: &[[u16; 3]],
-    opened: u32,
-) -> Result<(), Fail>
-    requires { Sound points (λ g. g.value) plan.now }
-{
-    let mut queue = [Entry::vacant(Points { value: 0 }); 5];
-    let mut list = [mark(9, 9, 9); 8];
-    if k > list.len() {
-        return Err(Fail::new("more than eight"));
-    }
-    draws(
-        rt,
-        plan,
-        window,
-        &mut queue,
-        &mut list[0..k],
-        wanted,
-        opened,
-    )
+    case: Case<'_>,
+) -> Result<(), Fail> {
+    let mut queue = [Entry::vacant(points(0)); 5];
+    let mut list = vec![in rt.alloc(); mark(9, 9, 9); k]?;
+    let mut lent = Lent {
+        queue: &mut queue,
+        list: list.as_mut_slice(),
+    };
+    lent.draws(rt, plan, case)
 }
 
 #[test]
 fn the_best_marks_of_the_whole_plan(rt: HostRuntime) -> Result<(), Fail> {
-    let mut places = [Place::vacant(Points { value: 0 }); 5];
+    let mut places = [Place::vacant(points(0)); 5];
     let mut plan = Plan::open(2, &mut places);
-    enter_marks(&rt, &mut plan)?;
+    enter_marks(&rt, &mut plan);
     let best = [[0, 3, 9], [2, 1, 7], [0, 0, 5], [1, 1, 5], [3, 3, 1]];
+    let whole = window(0, 0, 3, 3);
     for k in 1..6usize {
-        lists(&rt, &plan, window(0, 0, 3, 3), k, &best[0..k], k as u32)?;
+        lists(&rt, &plan, k, Case::new(whole, &best[..k], k as u32))?;
     }
-    lists(&rt, &plan, window(0, 0, 3, 3), 8, &best, 5)?;
-    lists(&rt, &plan, window(0, 0, 65535, 65535), 3, &best[0..3], 3)
+    lists(&rt, &plan, 8, Case::new(whole, &best, 5))?;
+    lists(
+        &rt,
+        &plan,
+        3,
+        Case::new(window(0, 0, 65535, 65535), &best[..3], 3),
+    )
 }
 
-// The refusal of a draw with a list and a queue of so many places, up to eight.
-fn refusal(plan: &Plan<'_, Points>, window: Window, places: usize, slots: usize) -> Option<u8>
-    requires { Sound points (λ g. g.value) plan.now }
-{
-    let mut queue = [Entry::vacant(Points { value: 0 }); 8];
-    let mut list = [mark(9, 8, 7); 8];
-    if places > list.len() || slots > queue.len() {
-        return None;
-    }
-    match draw(plan, window, &mut queue[0..slots], &mut list[0..places]) {
-        Ok(_) => None,
-        Err(e) => Some(e.number()),
-    }
+// The refusal of a draw with a list and a queue of so many places.
+fn refused(
+    alloc: Global,
+    plan: &Plan<'_, Points>,
+    window: Window,
+    places: usize,
+    slots: usize,
+) -> Result<Option<u8>, AllocError> {
+    let mut queue = vec![in alloc; Entry::vacant(points(0)); slots]?;
+    let mut list = vec![in alloc; mark(9, 8, 7); places]?;
+    Ok(refusal(draw(plan, window, queue.as_mut_slice(), list.as_mut_slice())))
 }
 
 #[test]
 fn the_first_fault_of_a_draw_is_answered(rt: HostRuntime) -> Result<(), Fail> {
-    let mut places = [Place::vacant(Points { value: 0 }); 7];
+    let mut places = [Place::vacant(points(0)); 7];
     let mut plan = Plan::open(2, &mut places);
-    enter_marks(&rt, &mut plan)?;
-    assert_eq!(rt; refusal(&plan, window(9, 9, 8, 8), 0, 4), Some(19));
-    assert_eq!(rt; refusal(&plan, window(0, 0, 3, 3), 0, 4), Some(20));
-    assert_eq!(rt; refusal(&plan, window(0, 0, 3, 3), 8, 4), Some(21));
-    assert_eq!(rt; refusal(&plan, window(0, 0, 3, 3), 8, 5), None);
+    enter_marks(&rt, &mut plan);
+    let whole = window(0, 0, 3, 3);
+    assert_eq!(rt;
+        refused(rt.alloc(), &plan, window(9, 9, 8, 8), 0, 4)?,
+        Some(19)
+    );
+    assert_eq!(rt; refused(rt.alloc(), &plan, whole, 0, 4)?, Some(20));
+    assert_eq!(rt; refused(rt.alloc(), &plan, whole, 8, 4)?, Some(21));
+    assert_eq!(rt; refused(rt.alloc(), &plan, whole, 8, 5)?, None);
     Ok(())
 }

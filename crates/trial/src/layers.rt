@@ -1,204 +1,69 @@
 //! Floors and shifts over a plan: what is drawn through them, and what they answer of a box.
-ghost use Rattle.grade.specs.Kinds.{points};
-ghost use Rattle.plan.specs.Plans.{Sound};
-
+use crate::answers::Seen::Done;
 use crate::answers::*;
 use crate::draws::*;
-use crate::plans::monument;
 use crate::small::enter_marks;
-use boxtree::mark::Mark;
 use boxtree::tree::BoxTree;
-use boxtree::window::Window;
 use draw::Entry;
-use grade::Grade;
 use grade::monument::Monument;
-use grade::points::Points;
 use layer::floor::Floor;
 use layer::pile::{Layer, Pile, check_pile};
+use layer::refusal::PastEdge;
 use layer::shift::{Shift, check_shift};
 use plan::{Call, Place, Plan};
+use refusals::Refusal;
 use std::process::Abort;
 use std::test::Fail;
 
-// The number with which a shift is refused, or none.
-fn shift_refusal<T: BoxTree>(below: &T, rows: u16, cols: u16) -> Option<u8>
-    requires { T.BoxTree.sound below.now }
-{
-    match check_shift(below, rows, cols) {
-        Ok(_) => None,
-        Err(e) => Some(e.number()),
-    }
+fn shifted<T: BoxTree>(below: &T, rows: u16, cols: u16) -> Result<Shift<'_, T>, PastEdge> {
+    check_shift(below, rows, cols)?;
+    Ok(Shift::over(below, rows, cols))
 }
 
-// Draws from the tree, shifted.
-fn shifted<T: BoxTree>(
-    rt: &impl Abort,
-    below: &T,
-    rows: u16,
-    cols: u16,
-    window: Window,
-    queue: &mut [Entry<T::G>],
-    list: &mut [Mark<T::G>],
-    wanted: &[[u16; 3]],
-    opened: u32,
-) -> Result<(), Fail>
-    requires { T.BoxTree.sound below.now }
-{
-    match check_shift(below, rows, cols) {
-        Ok(_) => {
-            let shift = Shift::over(below, rows, cols);
-            draws(rt, &shift, window, queue, list, wanted, opened)
-        }
-        Err(_) => Err(Fail::new("past the edge")),
-    }
-}
-
-// Draws through a floor over a shift by 10 rows and 20 columns.
-fn floor_over_shift<T: BoxTree>(
-    rt: &impl Abort,
+// Draws one case through a floor over a shift by 10 rows and 20 columns, and through such a shift over the floor; and another
+// through two shifts, together by as much.
+fn through_layers<T: BoxTree>(
+    rt: &(impl Abort + AllocGlobal),
     below: &T,
     least: T::G,
-    window: Window,
-    queue: &mut [Entry<T::G>],
-    list: &mut [Mark<T::G>],
-    wanted: &[[u16; 3]],
-    opened: u32,
-) -> Result<(), Fail>
-    requires { T.BoxTree.sound below.now }
-{
-    match check_shift(below, 10, 20) {
-        Ok(_) => {
-            let shift = Shift::over(below, 10, 20);
-            let floor = Floor::over(&shift, least);
-            draws(rt, &floor, window, queue, list, wanted, opened)
-        }
-        Err(_) => Err(Fail::new("past the edge")),
-    }
-}
-
-// Draws through a shift by 10 rows and 20 columns over a floor.
-fn shift_over_floor<T: BoxTree>(
-    rt: &impl Abort,
-    below: &T,
-    least: T::G,
-    window: Window,
-    queue: &mut [Entry<T::G>],
-    list: &mut [Mark<T::G>],
-    wanted: &[[u16; 3]],
-    opened: u32,
-) -> Result<(), Fail>
-    requires { T.BoxTree.sound below.now }
-{
+    lent: &mut Lent<'_, T::G>,
+    floored: Case<'_>,
+    moved: Case<'_>,
+) -> Result<(), Fail> {
+    let shift = shifted(below, 10, 20)?;
+    lent.draws(rt, &Floor::over(&shift, least), floored)?;
     let floor = Floor::over(below, least);
-    shifted(rt, &floor, 10, 20, window, queue, list, wanted, opened)
+    lent.draws(rt, &shifted(&floor, 10, 20)?, floored)?;
+    let shift = shifted(below, 9, 2)?;
+    lent.draws(rt, &shifted(&shift, 1, 18)?, moved)
 }
 
-// Draws through two shifts, together by 10 rows and 20 columns.
-fn shift_over_shift<T: BoxTree>(
-    rt: &impl Abort,
-    below: &T,
-    window: Window,
-    queue: &mut [Entry<T::G>],
-    list: &mut [Mark<T::G>],
-    wanted: &[[u16; 3]],
-    opened: u32,
-) -> Result<(), Fail>
-    requires { T.BoxTree.sound below.now }
-{
-    match check_shift(below, 9, 2) {
-        Ok(_) => {
-            let shift = Shift::over(below, 9, 2);
-            shifted(rt, &shift, 1, 18, window, queue, list, wanted, opened)
-        }
-        Err(_) => Err(Fail::new("past the edge")),
-    }
-}
-
-// Draws through two floors.
-fn floor_over_floor<T: BoxTree>(
-    rt: &impl Abort,
-    below: &T,
-    first: T::G,
-    second: T::G,
-    window: Window,
-    queue: &mut [Entry<T::G>],
-    list: &mut [Mark<T::G>],
-    wanted: &[[u16; 3]],
-    opened: u32,
-) -> Result<(), Fail>
-    requires { T.BoxTree.sound below.now }
-{
-    let lower = Floor::over(below, first);
-    let upper = Floor::over(&lower, second);
-    draws(rt, &upper, window, queue, list, wanted, opened)
-}
-
-// Draws through a pile.
-fn through_pile<T: BoxTree>(
-    rt: &impl Abort,
-    below: &T,
-    layers: &[Layer<T::G>],
-    window: Window,
-    queue: &mut [Entry<T::G>],
-    list: &mut [Mark<T::G>],
-    wanted: &[[u16; 3]],
-    opened: u32,
-) -> Result<(), Fail>
-    requires { T.BoxTree.sound below.now }
-{
-    match check_pile(below, layers) {
-        Ok(_) => {
-            let pile = Pile::over(below, layers);
-            draws(rt, &pile, window, queue, list, wanted, opened)
-        }
-        Err(_) => Err(Fail::new("past the edge")),
-    }
-}
-
-// Draws the whole, shifted by 10 rows and 20 columns: `moved` are its five marks there, the last of them below the floor.
-fn whole_through_layers<T: BoxTree>(
-    rt: &impl Abort,
+// Draws the whole of a small plan, and then two cells with one mark in them, through layers. `moved` are its five marks, 10
+// rows down and 20 columns to the right, and the last of them lies below the floor.
+fn small_through_layers<T: BoxTree>(
+    rt: &(impl Abort + AllocGlobal),
     below: &T,
     least: T::G,
-    queue: &mut [Entry<T::G>],
-    list: &mut [Mark<T::G>],
-    moved: &[[u16; 3]],
-) -> Result<(), Fail>
-    requires { T.BoxTree.sound below.now }
-{
-    if moved.len() < 5 {
-        return Err(Fail::new("fewer than five"));
-    }
+    lent: &mut Lent<'_, T::G>,
+    moved: [[u16; 3]; 5],
+) -> Result<(), Fail> {
     let whole = window(10, 20, 13, 23);
-    floor_over_shift(rt, below, least, whole, queue, list, &moved[0..4], 4)?;
-    shift_over_floor(rt, below, least, whole, queue, list, &moved[0..4], 4)?;
-    shift_over_shift(rt, below, whole, queue, list, moved, 5)
-}
-
-// Draws two cells in the same way, with one mark in them.
-fn part_through_layers<T: BoxTree>(
-    rt: &impl Abort,
-    below: &T,
-    least: T::G,
-    queue: &mut [Entry<T::G>],
-    list: &mut [Mark<T::G>],
-    moved: &[[u16; 3]],
-) -> Result<(), Fail>
-    requires { T.BoxTree.sound below.now }
-{
-    let part = window(11, 21, 11, 22);
-    floor_over_shift(rt, below, least, part, queue, list, moved, 3)?;
-    shift_over_floor(rt, below, least, part, queue, list, moved, 3)?;
-    shift_over_shift(rt, below, part, queue, list, moved, 3)
+    let moved = &moved[..];
+    let floored = Case::new(whole, &moved[..4], 4);
+    through_layers(rt, below, least, lent, floored, Case::new(whole, moved, 5))?;
+    let part = Case::new(window(11, 21, 11, 22), &moved[3..4], 3);
+    through_layers(rt, below, least, lent, part, part)
 }
 
 #[test]
 fn points_are_drawn_through_layers(rt: HostRuntime) -> Result<(), Fail> {
-    let mut places = [Place::vacant(Points { value: 0 }); 5];
+    let mut places = [Place::vacant(points(0)); 5];
     let mut plan = Plan::open(2, &mut places);
-    enter_marks(&rt, &mut plan)?;
-    let mut queue = [Entry::vacant(Points { value: 0 }); 5];
-    let mut list = [mark(9, 9, 9); 8];
+    enter_marks(&rt, &mut plan);
+    let mut lent = Lent {
+        queue: &mut [Entry::vacant(points(0)); 5],
+        list: &mut [mark(9, 9, 9); 8],
+    };
     let moved = [
         [10, 23, 9],
         [12, 21, 7],
@@ -206,53 +71,35 @@ fn points_are_drawn_through_layers(rt: HostRuntime) -> Result<(), Fail> {
         [11, 21, 5],
         [13, 23, 1],
     ];
-    let least = Points { value: 5 };
-    let higher = Points { value: 6 };
-    whole_through_layers(&rt, &plan, least, &mut queue, &mut list, &moved)?;
-    part_through_layers(&rt, &plan, least, &mut queue, &mut list, &[[11, 21, 5]])?;
-    let kept = [[0, 3, 9], [2, 1, 7]];
-    floor_over_floor(
-        &rt,
-        &plan,
-        least,
-        higher,
-        window(0, 0, 3, 3),
-        &mut queue,
-        &mut list,
-        &kept,
-        2,
-    )?;
-    floor_over_floor(
-        &rt,
-        &plan,
-        higher,
-        least,
-        window(0, 0, 3, 3),
-        &mut queue,
-        &mut list,
-        &kept,
-        2,
-    )
+    small_through_layers(&rt, &plan, points(5), &mut lent, moved)?;
+    let kept = Case::new(window(0, 0, 3, 3), &[[0, 3, 9], [2, 1, 7]], 2);
+    for (first, second) in [(5, 6), (6, 5)] {
+        let floor = Floor::over(&plan, points(first));
+        lent.draws(&rt, &Floor::over(&floor, points(second)), kept)?;
+    }
+    Ok(())
 }
 
 #[test]
 fn monuments_are_drawn_through_layers(rt: HostRuntime) -> Result<(), Fail> {
-    let least = Monument::new(3, 1851).ok().ok_or("no such grade")?;
+    let least = Monument::new(3, 1851)?;
     let mut places = [Place::vacant(least); 5];
     let mut plan = Plan::open(2, &mut places);
     expect(
         &rt,
         &mut plan,
         &[
-            gives(Call::Enter(monument(0, 0, 3, 1851)?), Seen::Done),
-            gives(Call::Enter(monument(0, 3, 1, 1990)?), Seen::Done),
-            gives(Call::Enter(monument(1, 1, 3, 1851)?), Seen::Done),
-            gives(Call::Enter(monument(2, 1, 2, 2004)?), Seen::Done),
-            gives(Call::Enter(monument(3, 3, 3, 1850)?), Seen::Done),
+            (Call::Enter(monument(0, 0, 3, 1851)?), Ok(Done)),
+            (Call::Enter(monument(0, 3, 1, 1990)?), Ok(Done)),
+            (Call::Enter(monument(1, 1, 3, 1851)?), Ok(Done)),
+            (Call::Enter(monument(2, 1, 2, 2004)?), Ok(Done)),
+            (Call::Enter(monument(3, 3, 3, 1850)?), Ok(Done)),
         ],
-    )?;
-    let mut queue = [Entry::vacant(least); 5];
-    let mut list = [monument(9, 9, 5, 1700)?; 8];
+    );
+    let mut lent = Lent {
+        queue: &mut [Entry::vacant(least); 5],
+        list: &mut [monument(9, 9, 5, 1700)?; 8],
+    };
     let moved = [
         [10, 23, 802],
         [12, 21, 1328],
@@ -260,34 +107,28 @@ fn monuments_are_drawn_through_layers(rt: HostRuntime) -> Result<(), Fail> {
         [11, 21, 1687],
         [13, 23, 1686],
     ];
-    whole_through_layers(&rt, &plan, least, &mut queue, &mut list, &moved)?;
-    part_through_layers(&rt, &plan, least, &mut queue, &mut list, &[[11, 21, 1687]])
+    small_through_layers(&rt, &plan, least, &mut lent, moved)
 }
 
 #[test]
 fn points_are_drawn_through_a_pile(rt: HostRuntime) -> Result<(), Fail> {
-    let mut places = [Place::vacant(Points { value: 0 }); 5];
+    let mut places = [Place::vacant(points(0)); 5];
     let mut plan = Plan::open(2, &mut places);
-    enter_marks(&rt, &mut plan)?;
-    let mut queue = [Entry::vacant(Points { value: 0 }); 5];
-    let mut list = [mark(9, 9, 9); 8];
+    enter_marks(&rt, &mut plan);
+    let mut lent = Lent {
+        queue: &mut [Entry::vacant(points(0)); 5],
+        list: &mut [mark(9, 9, 9); 8],
+    };
     let layers = [
         Layer::Shift { rows: 9, cols: 2 },
-        Layer::Floor(Points { value: 5 }),
-        Layer::Floor(Points { value: 3 }),
+        Layer::Floor(points(5)),
+        Layer::Floor(points(3)),
         Layer::Shift { rows: 1, cols: 18 },
     ];
+    check_pile(&plan, &layers)?;
+    let pile = Pile::over(&plan, &layers);
     let moved = [[10, 23, 9], [12, 21, 7], [10, 20, 5], [11, 21, 5]];
-    through_pile(
-        &rt,
-        &plan,
-        &layers,
-        window(10, 20, 13, 23),
-        &mut queue,
-        &mut list,
-        &moved,
-        4,
-    )?;
+    lent.draws(&rt, &pile, Case::new(window(10, 20, 13, 23), &moved, 4))?;
     let far = [
         Layer::Shift {
             rows: 65532,
@@ -301,15 +142,17 @@ fn points_are_drawn_through_a_pile(rt: HostRuntime) -> Result<(), Fail> {
 
 #[test]
 fn a_shift_ends_at_65535(rt: HostRuntime) -> Result<(), Fail> {
-    let mut places = [Place::vacant(Points { value: 0 }); 5];
+    let mut places = [Place::vacant(points(0)); 5];
     let mut plan = Plan::open(2, &mut places);
-    enter_marks(&rt, &mut plan)?;
-    assert_eq!(rt; shift_refusal(&plan, 65533, 0), Some(18));
-    assert_eq!(rt; shift_refusal(&plan, 0, 65533), Some(18));
-    assert_eq!(rt; shift_refusal(&plan, 65535, 65535), Some(18));
-    assert_eq!(rt; shift_refusal(&plan, 65532, 65532), None);
-    let mut queue = [Entry::vacant(Points { value: 0 }); 5];
-    let mut list = [mark(9, 9, 9); 8];
+    enter_marks(&rt, &mut plan);
+    assert_eq!(rt; refusal(check_shift(&plan, 65533, 0)), Some(18));
+    assert_eq!(rt; refusal(check_shift(&plan, 0, 65533)), Some(18));
+    assert_eq!(rt; refusal(check_shift(&plan, 65535, 65535)), Some(18));
+    assert_eq!(rt; refusal(check_shift(&plan, 65532, 65532)), None);
+    let mut lent = Lent {
+        queue: &mut [Entry::vacant(points(0)); 5],
+        list: &mut [mark(9, 9, 9); 8],
+    };
     let moved = [
         [65532, 3, 9],
         [65534, 1, 7],
@@ -317,118 +160,91 @@ fn a_shift_ends_at_65535(rt: HostRuntime) -> Result<(), Fail> {
         [65533, 1, 5],
         [65535, 3, 1],
     ];
-    let all = window(0, 0, 65535, 65535);
-    shifted(&rt, &plan, 65532, 0, all, &mut queue, &mut list, &moved, 5)?;
-    let last = window(65535, 0, 65535, 65535);
-    shifted(
+    let shift = shifted(&plan, 65532, 0)?;
+    lent.draws(
         &rt,
-        &plan,
-        65532,
-        0,
-        last,
-        &mut queue,
-        &mut list,
-        &moved[4..5],
-        3,
-    )
+        &shift,
+        Case::new(window(0, 0, 65535, 65535), &moved, 5),
+    )?;
+    let last = window(65535, 0, 65535, 65535);
+    lent.draws(&rt, &shift, Case::new(last, &moved[4..], 3))
 }
 
-// What a tree says of a box.
-#[derive(Clone, Copy, PartialEq, Debug)]
-enum Said {
-    Box(u32),
-    NoBox,
-    Marked([u16; 3]),
-    Refused(u8),
-}
-
-fn child<T: BoxTree>(tree: &T, b: u32, q: u8) -> Said
-    requires { T.BoxTree.sound tree.now }
-{
-    match tree.child(b, q) {
-        Ok(found) => match found {
-            Some(number) => Said::Box(number),
-            None => Said::NoBox,
-        },
-        Err(e) => Said::Refused(e.number()),
+// Compares the marks of boxes with those expected, a refusal by its number.
+fn marks<T: BoxTree>(rt: &impl Abort, tree: &T, expected: &[(u32, Result<[u16; 3], u8>)]) {
+    for (b, wanted) in expected {
+        let mark = tree.mark(*b).map(as_numbers).map_err(Refusal::number);
+        assert_eq!(rt; mark, *wanted, "box {b}");
     }
 }
 
-fn marked<T: BoxTree>(tree: &T, b: u32) -> Said
-    requires { T.BoxTree.sound tree.now }
-{
-    match tree.mark(b) {
-        Ok(mark) => Said::Marked(numbers(mark)),
-        Err(e) => Said::Refused(e.number()),
-    }
-}
-
-// Compares what a tree says of boxes with what is expected: of the child in a quadrant, or of the mark where the quadrant is 9.
-fn says<T: BoxTree>(rt: &impl Abort, tree: &T, expected: &[(u32, u8, Said)])
-    requires { T.BoxTree.sound tree.now }
-{
-    for case in expected {
-        let (b, q, said) = *case;
-        if q == 9 {
-            assert_eq!(rt; marked(tree, b), said);
-        } else {
-            assert_eq!(rt; child(tree, b, q), said);
-        }
+// Compares the boxes in quadrants of boxes with those expected, a refusal by its number.
+fn children<T: BoxTree>(
+    rt: &impl Abort,
+    tree: &T,
+    expected: &[(u32, u8, Result<Option<u32>, u8>)],
+) {
+    for (b, q, wanted) in expected {
+        let child = tree.child(*b, *q).map_err(Refusal::number);
+        assert_eq!(rt; child, *wanted, "box {b}, quadrant {q}");
     }
 }
 
 #[test]
-fn a_plan_answers_of_its_boxes(rt: HostRuntime) -> Result<(), Fail> {
-    let mut places = [Place::vacant(Points { value: 0 }); 7];
+fn a_plan_answers_of_its_boxes(rt: HostRuntime) {
+    let mut places = [Place::vacant(points(0)); 7];
     let mut plan = Plan::open(2, &mut places);
     assert_eq!(rt; plan.root(), None);
-    says(
-        &rt,
-        &plan,
-        &[(0, 9, Said::Refused(22)), (0, 0, Said::Refused(22))],
-    );
-    enter_marks(&rt, &mut plan)?;
+    marks(&rt, &plan, &[(0, Err(22))]);
+    children(&rt, &plan, &[(0, 0, Err(22))]);
+    enter_marks(&rt, &mut plan);
     assert_eq!(rt; plan.root(), Some(0));
     assert_eq!(rt; plan.ceiling(), 5);
-    says(
+    marks(
         &rt,
         &plan,
         &[
-            (0, 9, Said::Marked([0, 3, 9])),
-            (0, 0, Said::Box(1)),
-            (0, 1, Said::NoBox),
-            (1, 3, Said::Box(2)),
-            (2, 9, Said::Marked([1, 1, 5])),
-            (2, 0, Said::NoBox),
-            (0, 4, Said::Refused(22)),
-            (5, 9, Said::Refused(22)),
-            (5, 0, Said::Refused(22)),
-            (65536, 9, Said::Refused(22)),
+            (0, Ok([0, 3, 9])),
+            (2, Ok([1, 1, 5])),
+            (5, Err(22)),
+            (65536, Err(22)),
         ],
     );
-    Ok(())
+    children(
+        &rt,
+        &plan,
+        &[
+            (0, 0, Ok(Some(1))),
+            (0, 1, Ok(None)),
+            (1, 3, Ok(Some(2))),
+            (2, 0, Ok(None)),
+            (0, 4, Err(22)),
+            (5, 0, Err(22)),
+        ],
+    );
 }
 
 #[test]
-fn a_floor_hides_boxes_and_keeps_their_numbers(rt: HostRuntime) -> Result<(), Fail> {
-    let mut places = [Place::vacant(Points { value: 0 }); 7];
+fn a_floor_hides_boxes_and_keeps_their_numbers(rt: HostRuntime) {
+    let mut places = [Place::vacant(points(0)); 7];
     let mut plan = Plan::open(2, &mut places);
-    enter_marks(&rt, &mut plan)?;
-    let floor = Floor::over(&plan, Points { value: 7 });
+    enter_marks(&rt, &mut plan);
+    let floor = Floor::over(&plan, points(7));
     assert_eq!(rt; floor.root(), Some(0));
     assert_eq!(rt; floor.ceiling(), 5);
-    says(
+    marks(
+        &rt,
+        &floor,
+        &[(3, Ok([2, 1, 7])), (1, Err(22)), (5, Err(22))],
+    );
+    children(
         &rt,
         &floor,
         &[
-            (3, 9, Said::Marked([2, 1, 7])),
-            (1, 9, Said::Refused(22)),
-            (0, 2, Said::Box(3)),
-            (0, 0, Said::NoBox),
-            (1, 3, Said::Refused(22)),
-            (0, 4, Said::Refused(22)),
-            (5, 9, Said::Refused(22)),
+            (0, 2, Ok(Some(3))),
+            (0, 0, Ok(None)),
+            (1, 3, Err(22)),
+            (0, 4, Err(22)),
         ],
     );
-    Ok(())
 }

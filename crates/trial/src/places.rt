@@ -1,15 +1,8 @@
 //! Places, and the opening of a plan over them.
+use crate::answers::refusal;
 use grade::points::Points;
-use plan::{Place, PlanRefusal, check_open};
+use plan::{Place, check_open};
 use std::mem::size_of;
-
-// The number with which the opening is refused, or none.
-fn refusal(h: u32, places: usize) -> Option<u8> {
-    match check_open(h, places) {
-        Ok(_) => None,
-        Err(e) => Some(e.number()),
-    }
-}
 
 #[test]
 fn a_place_of_points_takes_14_bytes_at_most(rt: HostRuntime) {
@@ -18,21 +11,21 @@ fn a_place_of_points_takes_14_bytes_at_most(rt: HostRuntime) {
 
 #[test]
 fn a_level_above_10_is_refused(rt: HostRuntime) {
-    assert_eq!(rt; refusal(0, 1), None);
-    assert_eq!(rt; refusal(10, 1), None);
-    assert_eq!(rt; refusal(11, 1), Some(1));
+    assert_eq!(rt; refusal(check_open(0, 1)), None);
+    assert_eq!(rt; refusal(check_open(10, 1)), None);
+    assert_eq!(rt; refusal(check_open(11, 1)), Some(1));
 }
 
 #[test]
 fn no_places_and_too_many_are_refused(rt: HostRuntime) {
-    assert_eq!(rt; refusal(2, 0), Some(2));
-    assert_eq!(rt; refusal(2, 1), None);
-    assert_eq!(rt; refusal(2, 65535), None);
-    assert_eq!(rt; refusal(2, 65536), Some(2));
+    assert_eq!(rt; refusal(check_open(2, 0)), Some(2));
+    assert_eq!(rt; refusal(check_open(2, 1)), None);
+    assert_eq!(rt; refusal(check_open(2, 65535)), None);
+    assert_eq!(rt; refusal(check_open(2, 65536)), Some(2));
 }
 
 #[test]
 fn the_level_is_tested_before_the_places(rt: HostRuntime) {
-    assert_eq!(rt; refusal(11, 0), Some(1));
-    assert_eq!(rt; refusal(11, 65536), Some(1));
+    assert_eq!(rt; refusal(check_open(11, 0)), Some(1));
+    assert_eq!(rt; refusal(check_open(11, 65536)), Some(1));
 }

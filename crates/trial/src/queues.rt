@@ -1,13 +1,10 @@
 //! Queues of entries.
 use crate::answers::*;
-use crate::plans::monument;
 use boxtree::mark::Mark;
 use boxtree::square::Square;
 use draw::Entry;
 use grade::Grade;
-use grade::monument::Monument;
-use grade::points::Points;
-use queue::{Queue, Ranked};
+use queue::Queue;
 use std::test::Fail;
 
 // The entry of a mark, numbered by its rank.
@@ -24,40 +21,31 @@ fn ranked<G: Grade>(rank: u32, mark: Mark<G>) -> Entry<G> {
     }
 }
 
-fn number<G: Grade>(entry: Option<Entry<G>>) -> Option<u32> {
-    match entry {
-        Some(entry) => Some(entry.number),
-        None => None,
-    }
-}
-
-// The numbers of three entries as a queue gives them.
-fn popped<G: Grade>(
-    slots: &mut [Entry<G>],
-    a: Entry<G>,
-    b: Entry<G>,
-    c: Entry<G>,
-) -> [Option<u32>; 4] {
+// The numbers of three entries as a queue gives them, and what it gives then.
+fn popped<G: Grade>(slots: &mut [Entry<G>], entries: [Entry<G>; 3]) -> [Option<u32>; 4] {
     let mut queue = Queue::new(slots);
-    let _ = queue.push(a);
-    let _ = queue.push(b);
-    let _ = queue.push(c);
-    let first = number(queue.pop());
-    let second = number(queue.pop());
-    let third = number(queue.pop());
-    [first, second, third, number(queue.pop())]
+    for entry in entries {
+        let _ = queue.push(entry);
+    }
+    let mut numbers = [None; 4];
+    for number in numbers.iter_mut() {
+        *number = queue.pop().map(|entry| entry.number);
+    }
+    numbers
 }
 
 #[test]
 fn points_come_by_rank(rt: HostRuntime) {
-    let mut slots = [Entry::vacant(Points { value: 0 }); 3];
+    let mut slots = [Entry::vacant(points(0)); 3];
     let a = ranked(0, mark(3, 3, 9));
     let b = ranked(1, mark(0, 1, 5));
     let c = ranked(2, mark(1, 0, 5));
-    let order = [Some(0), Some(1), Some(2), None];
-    assert_eq!(rt; popped(&mut slots, a, b, c), order);
-    assert_eq!(rt; popped(&mut slots, c, b, a), order);
-    assert_eq!(rt; popped(&mut slots, b, c, a), order);
+    for entries in [[a, b, c], [c, b, a], [b, c, a]] {
+        assert_eq!(rt;
+            popped(&mut slots, entries),
+            [Some(0), Some(1), Some(2), None]
+        );
+    }
 }
 
 #[test]
@@ -66,9 +54,11 @@ fn monuments_come_by_rank(rt: HostRuntime) -> Result<(), Fail> {
     let b = ranked(1, monument(0, 1, 2, 2004)?);
     let c = ranked(2, monument(1, 0, 2, 2004)?);
     let mut slots = [c; 3];
-    let order = [Some(0), Some(1), Some(2), None];
-    assert_eq!(rt; popped(&mut slots, a, b, c), order);
-    assert_eq!(rt; popped(&mut slots, c, b, a), order);
-    assert_eq!(rt; popped(&mut slots, b, c, a), order);
+    for entries in [[a, b, c], [c, b, a], [b, c, a]] {
+        assert_eq!(rt;
+            popped(&mut slots, entries),
+            [Some(0), Some(1), Some(2), None]
+        );
+    }
     Ok(())
 }

@@ -1,102 +1,76 @@
 //! A plan beside a plain table of its cells: both get the same calls, and every answer is compared.
-ghost use Rattle.grade.specs.Kinds.{points};
-ghost use Rattle.plan.specs.Plans.{Sound};
-
 use crate::answers::Seen::*;
 use crate::answers::*;
 use boxtree::mark::Mark;
 use grade::points::Points;
-use plan::{Call, Place, Plan};
+use numbers::Numbers;
+use plan::{Call, Place, Plan, PlanRefusal};
+use std::alloc::{AllocError, Global};
 use std::process::Abort;
 use std::test::Fail;
 
-// The cells of a plan of side 8 with 20 places.
+// The grades of the cells of a plan of a side and so many places, row by row. A call is answered by its cell alone, and by
+// how many marks there are.
 #[derive(Drop)]
-struct Table {
-    cells: [[Option<u16>; 8]; 8],
+pub(crate) struct Table<const SIDE: usize> {
+    cells: [[Option<u16>; SIDE]; SIDE],
+    places: usize,
 }
 
-impl Table {
-    fn blank() -> Table {
+impl<const SIDE: usize> Table<SIDE> {
+    fn blank(places: usize) -> Table<SIDE> {
         Table {
-            cells: [[None; 8]; 8],
+            cells: [[None; SIDE]; SIDE],
+            places,
         }
     }
 
-    fn grade(&self, row: u16, col: u16) -> Option<u16> {
-        if row < 8 && col < 8 {
-            self.cells[row as usize][col as usize]
-        } else {
-            None
-        }
+    // A cell, or the refusal of one that lies off the table.
+    fn cell(&mut self, row: u16, col: u16) -> Result<&mut Option<u16>, u8> {
+        let cells = self.cells.get_mut(usize::from(row)).ok_or(4)?;
+        cells.get_mut(usize::from(col)).ok_or(4)
     }
 
-    fn set(&mut self, row: u16, col: u16, grade: Option<u16>) {
-        if row < 8 && col < 8 {
-            self.cells[row as usize][col as usize] = grade;
-        }
-    }
-
-    fn marks(&self) -> usize {
+    // How many marks it has.
+    fn count(&self) -> usize {
         let mut marks = 0usize;
-        for row in 0..8 {
-            for col in 0..8 {
-                if self.grade(row, col).is_some() {
-                    marks = marks.wrapping_add(1);
-                }
-            }
+        for cells in &self.cells {
+            marks = marks.saturating_add(cells.iter().flatten().count());
         }
         marks
     }
 
-    fn enter(&mut self, mark: Mark<Points>) -> Seen {
-        if mark.row >= 8 || mark.col >= 8 {
-            Refused(4)
-        } else if self.grade(mark.row, mark.col).is_some() {
-            Refused(5)
-        } else if self.marks() >= 20 {
-            Refused(7)
-        } else {
-            self.set(mark.row, mark.col, Some(mark.grade.value));
-            Done
+    fn enter(&mut self, mark: Mark<Points>) -> Result<Seen, u8> {
+        let full = self.count() >= self.places;
+        let cell = self.cell(mark.row, mark.col)?;
+        if cell.is_some() {
+            return Err(5);
         }
+        if full {
+            return Err(7);
+        }
+        *cell = Some(mark.grade.value);
+        Ok(Done)
     }
 
-    fn regrade(&mut self, mark: Mark<Points>) -> Seen {
-        if mark.row >= 8 || mark.col >= 8 {
-            Refused(4)
-        } else if self.grade(mark.row, mark.col).is_none() {
-            Refused(6)
-        } else {
-            self.set(mark.row, mark.col, Some(mark.grade.value));
-            Done
+    fn regrade(&mut self, mark: Mark<Points>) -> Result<Seen, u8> {
+        let cell = self.cell(mark.row, mark.col)?;
+        if cell.is_none() {
+            return Err(6);
         }
+        *cell = Some(mark.grade.value);
+        Ok(Done)
     }
 
-    fn strike(&mut self, row: u16, col: u16) -> Seen {
-        if row >= 8 || col >= 8 {
-            return Refused(4);
-        }
-        match self.grade(row, col) {
-            Some(grade) => {
-                self.set(row, col, None);
-                Graded(grade)
-            }
-            None => Refused(6),
-        }
+    fn strike(&mut self, row: u16, col: u16) -> Result<Seen, u8> {
+        self.cell(row, col)?.take().map(Graded).ok_or(6)
     }
 
-    fn look(&self, row: u16, col: u16) -> Seen {
-        if row >= 8 || col >= 8 {
-            return Refused(4);
-        }
-        match self.grade(row, col) {
-            Some(grade) => Graded(grade),
-            None => Vacant,
-        }
+    fn look(&mut self, row: u16, col: u16) -> Result<Seen, u8> {
+        Ok(self.cell(row, col)?.map_or(Vacant, Graded))
     }
 
-    fn call(&mut self, call: Call<Points>) -> Seen {
+    fn call(&mut self, call: Call<Points>) -> Result<Seen, u8> {
         match call {
             Call::Enter(mark) => self.enter(mark),
             Call::Regrade(mark) => self.regrade(mark),
@@ -104,21 +78,74 @@ impl Table {
             Call::Look(row, col) => self.look(row, col),
         }
     }
+
+    // Its marks, row by row.
+    pub(crate) fn marks(&self, alloc: Global) -> Result<Vec<Mark<Points>>, AllocError> {
+        let mut marks = Vec::new(alloc);
+        for (row, cells) in (0..u16::MAX).zip(&self.cells) {
+            for (col, cell) in (0..u16::MAX).zip(cells) {
+                if let Some(value) = *cell {
+                    marks.push(mark(row, col, value))?;
+                }
+            }
+        }
+        Ok(marks)
+    }
 }
 
-// A fixed row of numbers that looks random: linear congruential, of 64 bits.
+// A plan and a table of its cells, which get the same calls.
+#[derive(Drop)]
+pub(crate) struct Twins<'a, const SIDE: usize> {
+    pub(crate) plan: Plan<'a, Points>,
+    pub(crate) table: Table<SIDE>,
+}
+
+impl<const SIDE: usize> Twins<'_, SIDE> {
+    // A plan of the side, with no marks, and a blank table.
+    pub(crate) fn blank(plan: Plan<'_, Points>) -> Twins<'_, SIDE> {
+        let table = Table::blank(plan.places());
+        Twins { plan, table }
+    }
+
+    // Gives both a call, and compares their answers.
+    pub(crate) fn call(&mut self, rt: &impl Abort, call: Call<Points>, turn: u32) {
+        assert_eq!(rt;
+            in_numbers(self.plan.call(call)),
+            self.table.call(call),
+            "call {turn}"
+        );
+    }
+
+    // Gives both so many calls.
+    fn calls(&mut self, rt: &impl Abort, dice: &mut Dice, calls: u32) {
+        for turn in 0..calls {
+            self.call(rt, dice.call(), turn);
+        }
+    }
+
+    // Compares every cell, and the number of marks.
+    fn compare(&self, rt: &impl Abort) -> Result<(), PlanRefusal> {
+        assert_eq!(rt; grades(&self.plan)?, self.table.cells);
+        assert_eq!(rt; self.plan.marks(), self.table.count());
+        Ok(())
+    }
+}
+
+// Numbers that look random and are the same in every run.
 #[derive(Drop)]
 pub(crate) struct Dice {
-    pub(crate) state: u64,
+    numbers: Numbers,
 }
 
 impl Dice {
+    pub(crate) fn new(seed: u64) -> Dice {
+        Dice {
+            numbers: Numbers::new(seed),
+        }
+    }
+
     pub(crate) fn next(&mut self) -> u16 {
-        self.state = self
-            .state
-            .wrapping_mul(6364136223846793005)
-            .wrapping_add(1442695040888963407);
-        ((self.state >> 33) % 65536) as u16
+        (self.numbers.next() % 65536) as u16
     }
 
     // A call on a cell of the plan, or now and then right beside it. Few grades, so that many are equal.
@@ -135,54 +162,20 @@ impl Dice {
     }
 }
 
-// Gives the plan and the table the same calls.
-fn compare(
-    rt: &impl Abort,
-    plan: &mut Plan<'_, Points>,
-    table: &mut Table,
-    dice: &mut Dice,
-    calls: u32,
-) -> Result<(), Fail>
-    requires { Sound points (λ g. g.value) plan.old }
-    ensures { Sound points (λ g. g.value) plan.new }
-{
-    for i in 0..calls {
-        let call = dice.call();
-        assert_eq!(rt; in_numbers(plan.call(call)), table.call(call), "call {i}");
-    }
-    Ok(())
-}
-
-// Looks at every cell of both.
-fn compare_cells(rt: &impl Abort, plan: &Plan<'_, Points>, table: &Table) -> Result<(), Fail>
-    requires { Sound points (λ g. g.value) plan.now }
-{
-    for cell in 0..64u16 {
-        let wanted = table.grade(cell / 8, cell % 8);
-        match plan.look(cell / 8, cell % 8) {
-            Ok(Some(grade)) => assert_eq!(rt; Some(grade.value), wanted),
-            Ok(None) => assert_eq!(rt; None, wanted),
-            Err(_) => return Err(Fail::new("a cell of the plan is off it")),
-        }
-    }
-    assert_eq!(rt; plan.marks(), table.marks());
-    Ok(())
-}
-
-fn agree_from(rt: &impl Abort, seed: u64) -> Result<(), Fail> {
-    let mut places = [Place::vacant(Points { value: 0 }); 20];
-    let mut plan = Plan::open(3, &mut places);
-    let mut table = Table::blank();
-    let mut dice = Dice { state: seed };
-    compare(rt, &mut plan, &mut table, &mut dice, 40)?;
-    compare_cells(rt, &plan, &table)?;
-    compare(rt, &mut plan, &mut table, &mut dice, 960)?;
-    compare_cells(rt, &plan, &table)
+fn agree_from(rt: &impl Abort, seed: u64) -> Result<(), PlanRefusal> {
+    let mut places = [Place::vacant(points(0)); 20];
+    let mut twins = Twins::<8>::blank(Plan::open(3, &mut places));
+    let mut dice = Dice::new(seed);
+    twins.calls(rt, &mut dice, 40);
+    twins.compare(rt)?;
+    twins.calls(rt, &mut dice, 960);
+    twins.compare(rt)
 }
 
 #[test]
 fn a_plan_answers_as_a_table_does(rt: HostRuntime) -> Result<(), Fail> {
-    agree_from(&rt, 1)?;
-    agree_from(&rt, 2026)?;
-    agree_from(&rt, 65535)
+    for seed in [1, 2026, 65535] {
+        agree_from(&rt, seed)?;
+    }
+    Ok(())
 }
