@@ -1,19 +1,11 @@
 -- Places that are read and written, as the theory has them.
-use Rattle.std.proofs.Common.{◌≡◌, ℕ, zero, suc, ◌<◌, List, [], ◌∷◌, map, length, get_or, set, sym, refl, ap, ◌∙◌, arith, get_or-set_other, get_or-set_same}
+use Rattle.std.proofs.Common.{◌≡◌, ℕ, ◌<◌, List, map, length, set, get_or-set_other, get_or-set_same}
 use lib.ListN.{length-map}
 use lib.Seq.{map-set}
 use Rattle.plan.specs.declared.place.Place.{Place}
-use Rattle.plan.specs.Places.{Cell, cell_of, cells}
+use Rattle.plan.specs.Places.{cell_of, cells}
 
 module _ {G : Type 0} (code : G → ℕ) where
-  read_map : (ps : List (Place G)) (i : ℕ) (p : Place G) (e : Cell) → i < length ps → get_or (map (cell_of code) ps) i e ≡ cell_of code (get_or ps i p)
-  read_map [] i p e h = absurd (omega arith)
-  read_map (x ∷ ps) zero p e h = refl
-  read_map (x ∷ ps) (suc i) p e h = read_map ps i p e (omega arith)
-
-  pub cell_read : (ps : List (Place G)) (i : ℕ) (p : Place G) → i < length ps → p ≡ get_or ps i p → cells code ps i ≡ cell_of code p
-  cell_read ps i p h e = read_map ps i p _ h ∙ ap (cell_of code) (sym e)
-
   pub cell_written : (ps : List (Place G)) (i : ℕ) (p : Place G) → i < length ps → cells code (set ps i p) i ≡ cell_of code p
   cell_written ps i p h = let k : i < length (map (cell_of code) ps) = rw length-map h in rw map-set (get_or-set_same _ i _ _ k)
 

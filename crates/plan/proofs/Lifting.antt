@@ -63,9 +63,6 @@ module _ {k : Kind} (L : Laws k) {s : Square} {bound : ℕ} (at : ℕ → Cell) 
         go zero h = h.0
         go (suc l) h = h.0
 
-    pub pull_divided : Divided s
-    pull_divided = divided s pull_deep st.fits
-
     module _ {u : Square} (eu : u ≡ quadrant c.quadrant s) where
       stands_there : Stands k u bound (tree_in u at (Some c.place))
       stands_there = down_stands at i st c.quadrant pull_deep eu (sym link_is)
@@ -116,9 +113,6 @@ module _ {k : Kind} (L : Laws k) {s : Square} {bound : ℕ} (at : ℕ → Cell) 
           go (Some j) e = (pull_deep, over x j ne' e)
 
       module _ {bt : ℕ → Cell} {r : Option ℕ} {g : ℕ} (lifted : Lifted k u (at c.place).mark at (Some c.place) bt r g) where
-        pub pull_link : Below 65535 r
-        pull_link = below_limit r st.few (below_root bound r (Some c.place) (down_below at i st c.quadrant pull_deep eu (sym link_is)) lifted.root)
-
         module _ (ct : ℕ → Cell) (put : ct i ≡ relink c.quadrant p c.mark r) (rest : (n : ℕ) → (n ≡ i → ⊥) → ct n ≡ bt n) where
           not_i : held i (tree_in u bt r) ≡ 0
           not_i = omega (arith, lifted.loses.less.numbers (λ x. one_if (eqb i x)), held_part i, st.single i, one_is i i refl)

@@ -1,18 +1,17 @@
 -- The mark of a cell is the root's, or it is found in the quadrant of the cell.
-use Rattle.std.proofs.Common.{◌≡◌, ℕ, zero, suc, ◌<◌, true, false, Some, None, Option, sym, refl, ap, ◌∙◌, subst, inl, arith}
+use Rattle.std.proofs.Common.{◌≡◌, ℕ, zero, suc, ◌<◌, false, Some, None, Option, sym, refl, ap, ◌∙◌, subst, arith}
 use Rattle.std.proofs.lemmas.Bool.{false≢true}
 use Rattle.grade.specs.Kind.{Kind}
 use Rattle.treap.specs.Spots.{Spot}
 use Rattle.treap.specs.Trees.{Quadrant, Square, Within, quadrant, Tree, Shows, pick}
 use Rattle.treap.specs.Sums.{at_cell, in_cell}
 use Rattle.treap.proofs.Shown.{below}
-use Rattle.treap.proofs.Counts.{at_cell_is, is_at_cell}
+use Rattle.treap.proofs.Counts.{is_at_cell}
 use Rattle.treap.proofs.Cells.{cell_in_quadrant}
 use Rattle.treap.proofs.Hanging.{one_cell}
-use Rattle.boxtree.specs.Squares.{Divided}
 use Rattle.plan.specs.Places.{Cell, link, tree_at}
 use Rattle.plan.specs.Standing.{tree_in, Stands, Found}
-use Rattle.plan.proofs.Descent.{divided, down_falls, down_is, down_stands, at_place}
+use Rattle.plan.proofs.Descent.{down_falls, down_is, down_stands, at_place}
 
 -- going down from the root in the place i, which is p
 module _ {k : Kind} {s : Square} {bound row col : ℕ} (inside : Within s row col) (at : ℕ → Cell) {root : Option ℕ} (stands : Stands k s bound (tree_in s at root))
@@ -26,9 +25,6 @@ module _ {k : Kind} {s : Square} {bound row col : ℕ} (inside : Within s row co
   at_root : (r : Option Spot) → Found row col (tree_in s at (Some i)) r → Found row col (tree_in s at root) r
   at_root r h = subst (λ (o : Option ℕ). Found row col (tree_in s at o) r) (sym is) h
 
-  pub found_here : at_cell row col p.mark ≡ true → Found row col (tree_in s at root) (Some p.mark)
-  found_here e = let w = at_cell_is row col p.mark e in at_root (Some p.mark) (inl (sym mark_is), sym w.0, sym w.1)
-
   module _ (other : at_cell row col p.mark ≡ false) where
     not_here : at_cell row col (at i).mark ≡ false
     not_here = ap (at_cell row col) mark_is ∙ other
@@ -41,9 +37,6 @@ module _ {k : Kind} {s : Square} {bound row col : ℕ} (inside : Within s row co
         go zero e =
             let w = one_cell s row col _ _ inside st.ordered.0.inside e in
             absurd (false≢true (sym not_here ∙ is_at_cell row col (at i).mark w.0 w.1))
-
-    pub seek_divided : Divided s
-    seek_divided = divided s seek_deep st.fits
 
     module _ (q : Quadrant) (within : Within (quadrant q s) row col) {u : Square} (eu : u ≡ quadrant q s) {o : Option ℕ} (eo : o ≡ link q p) where
       eo' : o ≡ link q (at i)

@@ -8,10 +8,9 @@ use Rattle.treap.specs.Changes.{Gains, Ranked}
 use Rattle.treap.proofs.Counts.{one_is, none_is}
 use Rattle.treap.proofs.Hanging.{hung}
 use Rattle.treap.proofs.Changes.{room_below, down_inside, free_below, sink_below, sink_first}
-use Rattle.boxtree.specs.Squares.{Divided}
-use Rattle.plan.specs.Places.{Cell, Below, leaf_of, link, relink, tree_at}
-use Rattle.plan.specs.Standing.{tree_in, Sinks, Sunk, place_or}
-use Rattle.plan.proofs.Descent.{divided, down_falls, down_is, down_link, down_stands, down_held, down_depth, down_below, graft}
+use Rattle.plan.specs.Places.{Cell, leaf_of, link, relink, tree_at}
+use Rattle.plan.specs.Standing.{tree_in, Sinks, Sunk}
+use Rattle.plan.proofs.Descent.{down_falls, down_is, down_link, down_stands, down_held, down_depth, graft}
 
 -- into an empty tree
 pub sunk_first : {k : Kind} {s : Square} {bound : ℕ} {m : Spot} {fresh : ℕ} (at bt : ℕ → Cell) {root : Option ℕ}
@@ -46,9 +45,6 @@ module _ {k : Kind} (L : Laws k) {s : Square} {bound : ℕ} {m : Spot} {fresh : 
   down_holds : Holds k s down
   down_holds = down_inside k L s i (at i).mark _ _ _ _ h.stands.ordered m h.holds h.stands.alone h.free up down ranked'
 
-  pub sink_divides : Divided s × Within s down.row down.col
-  sink_divides = (divided s sink_deep h.stands.fits, down_holds.inside)
-
   module _ (q : Quadrant) (within : Within (quadrant q s) down.row down.col) {u : Square} (eu : u ≡ quadrant q s) {o : Option ℕ} (eo : o ≡ link q p) where
     eo' : o ≡ link q (at i)
     eo' = eo ∙ ap (link q) (sym ep)
@@ -72,13 +68,6 @@ module _ {k : Kind} (L : Laws k) {s : Square} {bound : ℕ} {m : Spot} {fresh : 
     )
 
     module _ {bt : ℕ → Cell} {j : ℕ} (sunk : Sunk k u down fresh at o bt j) where
-      pub sink_link : j < 65535
-      sink_link = let low : j < bound = go o sunk.root (down_below at i h.stands q sink_deep eu eo') in omega (arith, h.stands.few)
-        where
-          go : (x : Option ℕ) → j ≡ place_or fresh x → Below bound x → j < bound
-          go None e w = omega (arith, h.room)
-          go (Some v) e w = omega arith
-
       module _ (ct : ℕ → Cell) (put : ct i ≡ relink q p up (Some j)) (rest : (n : ℕ) → (n ≡ i → ⊥) → ct n ≡ bt n) where
         not_fresh : one_if (eqb i fresh) ≡ 0
         not_fresh = none_is i fresh (λ e. omega (arith, h.unused, ap (λ (x : ℕ). held x (tree_in s at (Some i))) e, one_is i i refl))

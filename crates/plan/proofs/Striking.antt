@@ -39,10 +39,6 @@ module _ {G : Type 0} {kind : Kind} {code : G → ℕ} {h n : ℕ} {ps : List (P
   pub at_root : {v : Square} → v ≡ plan_square h → Stands kind v (length ps) (tree_in v (cells code ps) (Some 0))
   at_root ev = stands_whole s ev (sym at_0)
 
-  pub shown_root : {v : Square} → v ≡ plan_square h → Shows (tree_in v (cells code ps) (Some 0)) m
-  shown_root {v} ev =
-      subst (λ (x : Square). Shows (tree_in x (cells code ps) (Some 0)) m) (sym ev) (subst (λ (o : Option ℕ). Shows (tree_in (plan_square h) (cells code ps) o) m) at_0 shown)
-
   graded_is : grade_in m.row m.col t ≡ Some m.grade
   graded_is = shown_graded t s.alone m shown
 

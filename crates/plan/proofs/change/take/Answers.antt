@@ -1,14 +1,11 @@
 use Rattle.std.proofs.Common.{ap, arith}
 use Rattle.boxtree.specs.Marks.{spot_of}
 use Rattle.plan.specs.Places.{Cell}
-use Rattle.plan.proofs.Striking.{at_root, shown_root, take_answers, take_last, move_asks, take_moved}
+use Rattle.plan.proofs.Striking.{at_root, take_answers, take_last, move_asks, take_moved}
 use Rattle.plan.proofs.change.take.Goals as goal
 
 pub lift-freed-requires-clause-stands : goal.lift-freed-requires-clause-stands
 lift-freed-requires-clause-stands g c = at_root c.requires.shape (spot_of g.G.Grade.coded c.args.mark) c.requires.shown c.whole-square.ensures
-
-pub lift-freed-requires-clause-shown : goal.lift-freed-requires-clause-shown
-lift-freed-requires-clause-shown g c = shown_root c.requires.shape (spot_of g.G.Grade.coded c.args.mark) c.requires.shown c.whole-square.ensures
 
 pub returns-then-freed-last-clause-answered : goal.returns-then-freed-last-clause-answered
 returns-then-freed-last-clause-answered g c = take_answers c.requires.shape (spot_of g.G.Grade.coded c.args.mark) c.requires.shown

@@ -1,22 +1,13 @@
-use Rattle.std.proofs.Common.{Option, sym, ◌∙◌, subst, arith}
+use Rattle.std.proofs.Common.{sym, ◌∙◌, arith}
 use Rattle.boxtree.specs.Marks.{spot_of}
-use Rattle.boxtree.specs.Squares.{square_of}
 use Rattle.boxtree.specs.Quadrants.{quadrant_of}
-use Rattle.treap.specs.Trees.{Shows}
 use Rattle.plan.specs.Places.{cells}
-use Rattle.plan.specs.Standing.{tree_in}
-use Rattle.plan.proofs.Descent.{in_places, at_place}
+use Rattle.plan.proofs.Descent.{in_places}
 use Rattle.plan.proofs.Lifting.{lift_here, lift_divides, lift_asks, lift_link, lift_does}
 use Rattle.plan.proofs.lift.+lift.Goals as goal
 
-pub returns-in-None : goal.returns-in-None
-returns-in-None g t c = absurd (subst (λ (o : Option _). Shows (tree_in (square_of c.args.square) (cells g.G.Grade.coded c.args.places.now) o) (spot_of g.G.Grade.coded c.args.mark)) c.in-None.is c.requires.shown)
-
 pub read-here-requires : goal.read-here-requires
 read-here-requires g t c = in_places (cells g.G.Grade.coded c.args.places.now) c.requires.stands c.in-Some.is
-
-pub pull-requires : goal.pull-requires
-pull-requires g t c = at_place (cells g.G.Grade.coded c.args.places.now) c.requires.stands c.in-Some.is
 
 pub quadrant_at-q-requires : goal.quadrant_at-q-requires
 quadrant_at-q-requires g t c =
@@ -24,11 +15,6 @@ quadrant_at-q-requires g t c =
     lift_divides g.met.G.Grade.laws (cells g.G.Grade.coded c.args.places.now) c.requires.stands (spot_of g.G.Grade.coded c.args.mark) c.requires.shown c.in-Some.is c.read-here.ensures
     (rw c.cell-cell.ensures at (sym c.if-stands_in.ensures)) in
     record { divided = w.0; inside = rw c.cell-cell.ensures w.1 }
-
-pub part-requires : goal.part-requires
-part-requires g t c =
-    (lift_divides g.met.G.Grade.laws (cells g.G.Grade.coded c.args.places.now) c.requires.stands (spot_of g.G.Grade.coded c.args.mark) c.requires.shown c.in-Some.is c.read-here.ensures
-    (rw c.cell-cell.ensures at (sym c.if-stands_in.ensures))).0
 
 pub lift-freed-requires : goal.lift-freed-requires
 lift-freed-requires g t c κs within =

@@ -1,22 +1,9 @@
-use Rattle.std.proofs.Common.{ℕ, Option, ap, ◌∙◌, arith}
-use Rattle.treap.specs.Sums.{held}
-use Rattle.boxtree.specs.Squares.{square_of}
+use Rattle.std.proofs.Common.{◌∙◌, arith}
 use Rattle.boxtree.specs.Quadrants.{quadrant_of}
 use Rattle.plan.specs.Places.{cells}
-use Rattle.plan.specs.Standing.{tree_in}
 use Rattle.plan.proofs.Descent.{in_places}
 use Rattle.plan.proofs.Moving.{move_here, move_divides, move_asks, move_link, move_does}
 use Rattle.plan.proofs.relocate.+relocate.Goals as goal
-
-pub returns-in_err-i : goal.returns-in_err-i
-returns-in_err-i g t c =
-    absurd (omega (arith, c.requires.held_once, ap (λ (o : Option ℕ). held c.args.from (tree_in (square_of c.args.square) (cells g.G.Grade.coded c.args.places.now) o)) c.in_err-i.was))
-
-pub read-here-requires : goal.read-here-requires
-read-here-requires g t c = in_places (cells g.G.Grade.coded c.args.places.now) c.requires.stands c.in_ok-i.was
-
-pub write-requires : goal.write-requires
-write-requires g t c = c.requires.room
 
 pub quadrant_at-q-requires : goal.quadrant_at-q-requires
 quadrant_at-q-requires g t c =

@@ -2,19 +2,11 @@ use Rattle.std.proofs.Common.{sym, arith}
 use Rattle.boxtree.specs.Quadrants.{quadrant_of}
 use Rattle.plan.specs.Places.{cells}
 use Rattle.plan.proofs.Descent.{in_places}
-use Rattle.plan.proofs.Seeking.{found_here, seek_divided, seek_asks, found_below}
+use Rattle.plan.proofs.Seeking.{seek_asks, found_below}
 use Rattle.plan.proofs.seek.+seek.Goals as goal
 
 pub read-here-requires : goal.read-here-requires
 read-here-requires g t c = in_places (cells g.G.Grade.coded c.args.places.now) c.requires.stands c.in_ok-root.was
-
-pub quadrant_at-q-requires-clause-divided : goal.quadrant_at-q-requires-clause-divided
-quadrant_at-q-requires-clause-divided g t c =
-    seek_divided c.requires.inside (cells g.G.Grade.coded c.args.places.now) c.requires.stands c.in_ok-root.was c.read-here.ensures (sym c.if-stands_in.ensures)
-
-pub part-requires : goal.part-requires
-part-requires g t c =
-    seek_divided c.requires.inside (cells g.G.Grade.coded c.args.places.now) c.requires.stands c.in_ok-root.was c.read-here.ensures (sym c.if-stands_in.ensures)
 
 pub seek-requires : goal.seek-requires
 seek-requires g t c κs within =
@@ -22,10 +14,6 @@ seek-requires g t c κs within =
     seek_asks c.requires.inside (cells g.G.Grade.coded c.args.places.now) c.requires.stands c.in_ok-root.was c.read-here.ensures (sym c.if-stands_in.ensures)
     (quadrant_of c.quadrant_at-q.result) c.quadrant_at-q.ensures c.part.ensures c.link.ensures in
     (omega (arith, c.decreases, w.0), (within, w.1))
-
-pub returns-then-stands_in : goal.returns-then-stands_in
-returns-then-stands_in g t c =
-    found_here c.requires.inside (cells g.G.Grade.coded c.args.places.now) c.requires.stands c.in_ok-root.was c.read-here.ensures (sym c.if-stands_in.ensures)
 
 pub returns : goal.returns
 returns g t c =

@@ -2,19 +2,11 @@ use Rattle.std.proofs.Common.{◌∙◌, arith}
 use Rattle.boxtree.specs.Quadrants.{quadrant_of}
 use Rattle.plan.specs.Places.{cells}
 use Rattle.plan.proofs.Descent.{in_places}
-use Rattle.plan.proofs.Sinking.{sunk_first, sink_divides, sink_asks, sink_link, sink_does}
+use Rattle.plan.proofs.Sinking.{sink_asks, sink_does}
 use Rattle.plan.proofs.sink.+sink.Goals as goal
 
 pub read-here-requires : goal.read-here-requires
 read-here-requires g t c = in_places (cells g.G.Grade.coded c.args.places.now) c.requires.stands c.in-Some.is
-
-pub quadrant_at-q-requires : goal.quadrant_at-q-requires
-quadrant_at-q-requires g t c =
-    let w = sink_divides g.met.G.Grade.laws (cells g.G.Grade.coded c.args.places.now) c.requires c.in-Some.is c.read-here.ensures c.rank_pair-pair.ensures in
-    record { divided = w.0; inside = rw c.cell.ensures w.1 }
-
-pub part-requires : goal.part-requires
-part-requires g t c = (sink_divides g.met.G.Grade.laws (cells g.G.Grade.coded c.args.places.now) c.requires c.in-Some.is c.read-here.ensures c.rank_pair-pair.ensures).0
 
 pub sink-below-requires : goal.sink-below-requires
 sink-below-requires g t c κs within =
@@ -23,19 +15,10 @@ sink-below-requires g t c κs within =
     (quadrant_of c.quadrant_at-q.result) (rw c.cell.ensures at c.quadrant_at-q.ensures) c.part.ensures c.link.ensures in
     (omega (arith, c.decreases, w.0), (within, w.1))
 
-pub relinked-requires : goal.relinked-requires
-relinked-requires g t c =
-    sink_link g.met.G.Grade.laws (cells g.G.Grade.coded c.args.places.now) c.requires c.in-Some.is c.read-here.ensures c.rank_pair-pair.ensures
-    (quadrant_of c.quadrant_at-q.result) (rw c.cell.ensures at c.quadrant_at-q.ensures) c.part.ensures c.link.ensures c.sink-below.ensures
-
 pub write-requires-in-Some : goal.write-requires-in-Some
 write-requires-in-Some g t c =
     let low = in_places (cells g.G.Grade.coded c.args.places.now) c.requires.stands c.in-Some.is in
     omega (arith, low, c.sink-below.auto.places)
-
-pub returns-in-None : goal.returns-in-None
-returns-in-None g t c =
-    sunk_first (cells g.G.Grade.coded c.args.places.now) (cells g.G.Grade.coded c.write.new.places) c.requires c.in-None.is (c.write.ensures.there ∙ c.leaf.ensures) c.write.ensures.elsewhere
 
 pub returns-in-Some : goal.returns-in-Some
 returns-in-Some g t c =
