@@ -45,22 +45,36 @@ fn below(numbers: &mut Numbers, bound: u32) -> u16
     (numbers.next() % bound) as u16
 }
 
-// A window of `side` by `side` cells, where the numbers put it; one that is as large as the plan has one place only.
-fn place_window(numbers: &mut Numbers, side: u16) -> Window
-    requires { (0 < side) × (side ≤ 1024) }
-{
-    let mut top = 0;
-    let mut left = 0;
-    if side < SIDE {
-        let free = u32::from(SIDE - side);
-        top = below(numbers, free);
-        left = below(numbers, free);
+// What a line of the benchmark tells of: windows of `side` by `side` cells, drawn with `k` marks each.
+#[derive(Clone, Copy)]
+struct Task {
+    side: u16,
+    k: u16,
+    ghost inside: { (0 < side) × (side ≤ 1024) },
+    ghost listable: { k ≤ 100 },
+}
+
+impl Task {
+    // The numbers that place the windows.
+    fn numbers(self) -> Numbers {
+        Numbers::new(99 + u64::from(self.side) * 1000 + u64::from(self.k))
     }
-    Window {
-        top,
-        left,
-        bottom: top + (side - 1),
-        right: left + (side - 1),
+
+    // A window, where the numbers put it; one that is as large as the plan has one place only.
+    fn window(self, numbers: &mut Numbers) -> Window {
+        let mut top = 0;
+        let mut left = 0;
+        if self.side < SIDE {
+            let free = u32::from(SIDE - self.side);
+            top = below(numbers, free);
+            left = below(numbers, free);
+        }
+        Window {
+            top,
+            left,
+            bottom: top + (self.side - 1),
+            right: left + (self.side - 1),
+        }
     }
 }
 
@@ -113,7 +127,7 @@ fn main(rt: HostRuntime) -> io::Result<()> {
     };
     for side in SIDES {
         for k in COUNTS {
-            bench.report(&rt, side, k, timed)?;
+            bench.report(&rt, Task { side, k }, timed)?;
         }
     }
     Ok(())
@@ -152,20 +166,17 @@ struct Bench<'a> {
 }
 
 impl Bench<'_> {
-    // Draws windows of `side` by `side` cells with `k` marks each, and prints what the draws come to.
-    fn report(&mut self, rt: &HostRuntime, side: u16, k: u16, timed: bool) -> io::Result<()>
-        requires side { (0 < side) × (side ≤ 1024) }
-        requires places { k ≤ 100 }
-    {
+    // Draws the windows of a task, and prints what the draws come to.
+    fn report(&mut self, rt: &HostRuntime, task: Task, timed: bool) -> io::Result<()> {
         let start = Instant::now(rt)?;
-        let Ok(totals) = self.draw_all(side, k) else {
+        let Ok(totals) = self.draw_all(task) else {
             eprintln!(rt; "bench: a draw was refused")?;
             return Err(io::ErrorKind::Other.into());
         };
         let time = start.elapsed(rt)?;
         print!(rt;
-            "w {side} k {k} listed {} sum {} opened {}",
-            totals.listed, totals.sum, totals.opened
+            "w {} k {} listed {} sum {} opened {}",
+            task.side, task.k, totals.listed, totals.sum, totals.opened
         )?;
         if timed {
             let tenths = time.as_micros() / 200;
@@ -175,19 +186,15 @@ impl Bench<'_> {
     }
 
     // What the draws come to.
-    fn draw_all(&mut self, side: u16, k: u16) -> Result<Totals, DrawRefusal>
-        requires side { (0 < side) × (side ≤ 1024) }
-        requires places { k ≤ 100 }
-    {
-        let mut numbers = Numbers::new(99 + u64::from(side) * 1000 + u64::from(k));
+    fn draw_all(&mut self, task: Task) -> Result<Totals, DrawRefusal> {
+        let mut numbers = task.numbers();
         let mut totals = Totals::default();
         let plan = self.plan;
         let queue = &mut *self.queue;
         let places = &mut self.list[..];
-        let list = &mut places[..usize::from(k)];
+        let list = &mut places[..usize::from(task.k)];
         for _ in 0..WINDOWS {
-            let window = place_window(&mut numbers, side);
-            let drawn = draw(plan, window, queue, list)?;
+            let drawn = draw(plan, task.window(&mut numbers), queue, list)?;
             totals.add(drawn, list);
         }
         Ok(totals)
