@@ -40,15 +40,12 @@ impl<G: Grade> Plan<'_, G> {
             Call::Enter(mark) => self.enter(mark).map(|_| Answer::Done),
             Call::Regrade(mark) => self.regrade(mark).map(|_| Answer::Done),
             Call::Strike(row, col) => self.strike(row, col).map(Answer::Grade),
-            Call::Look(row, col) => match self.look(row, col)? {
-                Some(grade) => Ok(Answer::Grade(grade)),
-                None => Ok(Answer::Vacant),
-            },
+            Call::Look(row, col) => Ok(self.look(row, col)?.map_or(Answer::Vacant, Answer::Grade)),
         }
     }
 }
 
-// The call `i`, if there are so many.
+// The call `i`, if there are so many. A function of its own, so that a wrong call is refused here.
 fn call_at<G: Copy>(calls: &[Call<G>], i: usize) -> Option<Call<G>>
     ensures { result ≡ slice_get calls.now i }
 {
