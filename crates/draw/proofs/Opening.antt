@@ -8,7 +8,7 @@ use Rattle.std.proofs.lemmas.List.Sorted.{IsPermutation-refl, IsPermutation-tran
 use Rattle.std.proofs.lemmas.List.Sums.{sum_by-cons, sum_by-append}
 use Rattle.treap.specs.Trees.{Quadrant, tl, tr, bl, br, index, Square, quadrant, Tree, sub, count}
 use Rattle.treap.specs.Draws.{Window, Touches}
-use Rattle.treap.specs.Searches.{Node, tree, child, KidsBelow}
+use Rattle.treap.specs.Searches.{Node, tree, child}
 use Rattle.treap.proofs.Walks.{Kids}
 use Rattle.treap.proofs.Kids.{kids_none, kids_skip, kids_push, kids_all}
 use Rattle.boxtree.specs.declared.quadrant.Quadrant as boxtree
@@ -129,10 +129,5 @@ module _ {G : Type 0} (code : G → ℕ) (t : Tree) (w : Window) (top : Entry G)
           let r = room_left w (node code t top) q _ _ (nodes code t mid) at_index (node code t x) l room fits in
           let n = length-map mid (node code t) in omega arith
 
-pub opened : (w : Window) (f : Node) (before after : List Node) (n : ℕ) → n ≡ 4 → Opening w f n before after → Opened w f before after
-opened w f before after n e h = record {
-  kids = h.kids;
-  are = kids_all w f h.kids (subst (λ (q : ℕ). KidsBelow w f q h.kids) e h.are);
-  shuffled = h.shuffled;
-  light = let l = h.light in let i = ap (few f) e in omega arith;
-}
+pub opened : {w : Window} {f : Node} {before after : List Node} → Opening w f 4 before after → Opened w f before after
+opened {w} {f} h = record { kids = h.kids; are = kids_all w f h.kids h.are; shuffled = h.shuffled; light = let l = h.light in omega arith }

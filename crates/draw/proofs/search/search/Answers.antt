@@ -37,7 +37,7 @@ pub loop-top-smaller : goal.loop-top-smaller
 loop-top-smaller g c =
     let i = c.loop-top.invariant in
     lighter g.met.T.G.Grade.laws c.root.ensures.lawful (turn c.in-Some.ensures.held i.size i.left i.running) c.enlist-listed.new.list c.enlist-listed.result
-    c.enlist-listed.ensures c.open.new.waiting.held (opened _ _ _ _ 4 refl c.open.ensures.held)
+    c.enlist-listed.ensures c.open.new.waiting.held (opened c.open.ensures.held)
 
 pub loop-top-preserved : goal.loop-top-preserved
 loop-top-preserved g c =
@@ -53,7 +53,7 @@ loop-top-preserved g c =
       size = list_size L h t list' listed' e;
       left = omega (arith, list_size L h t list' listed' e, list_filled L h t list' listed' e, eqb-false listed' (length list') (sym c.full.ensures ∙ c.if-full.false));
       rest = list_rest L h t list' listed' e c.args.list.now i.rest;
-      running = runs_on L h t list' listed' e c.open.new.waiting.held (opened _ _ _ _ 4 refl c.open.ensures.held);
+      running = runs_on L h t list' listed' e c.open.new.waiting.held (opened c.open.ensures.held);
     }
 
 pub returns-then-full-clause-draws : goal.returns-then-full-clause-draws
