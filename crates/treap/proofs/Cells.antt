@@ -16,13 +16,9 @@ mark_sum_add f g (box i m a b c d) =
     omega (arith, mark_sum_add f g a, mark_sum_add f g b, mark_sum_add f g c, mark_sum_add f g d)
 
 -- a mark that a tree shows counts in a sum over its marks
-pub shown_le : (f : Spot → ℕ) (t : Tree) (x : Spot) → Shows t x → f x ≤ mark_sum f t
+shown_le : (f : Spot → ℕ) (t : Tree) (x : Spot) → Shows t x → f x ≤ mark_sum f t
 shown_le f none x h = absurd h
-shown_le f (box i m a b c d) x (inl e) = omega (arith, ap f e)
-shown_le f (box i m a b c d) x (inr (inl h)) = omega (arith, shown_le f a x h)
-shown_le f (box i m a b c d) x (inr (inr (inl h))) = omega (arith, shown_le f b x h)
-shown_le f (box i m a b c d) x (inr (inr (inr (inl h)))) = omega (arith, shown_le f c x h)
-shown_le f (box i m a b c d) x (inr (inr (inr (inr h)))) = omega (arith, shown_le f d x h)
+shown_le f (box i m a b c d) x h = grind (arith, shown_le f a x, shown_le f b x, shown_le f c x, shown_le f d x)
 
 pub one_if_tells : (b : Bool) → ((b ≡ true) × (one_if b ≡ 1)) ⊎ ((b ≡ false) × (one_if b ≡ 0))
 one_if_tells true = inl (refl, refl)

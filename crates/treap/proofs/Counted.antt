@@ -1,6 +1,6 @@
 -- How many boxes a draw has to open: a count that the numbers of the boxes do not enter; so a draw has one answer.
 use Rattle.std.proofs.Common.{◌≡◌, ℕ, ◌+◌, ◌^◌, ◌<◌, max, Bool, true, false, ◌&&◌, ◌||◌, ltb, leb, ◌⊎◌, List, [], ◌∷◌, ◌++◌, map, length, Decides, sym, refl, subst, inl, inr, arith, length-append}
-use Rattle.std.proofs.lemmas.Bool.Decides.{nat_tests}
+use Rattle.std.proofs.lemmas.Bool.Decides.{nat_tests, Decides-and, Decides-or}
 use Rattle.std.proofs.lemmas.Bool.{false≢true}
 use Rattle.grade.specs.Kind.{Kind, Laws}
 use Rattle.treap.specs.Spots.{Spot}
@@ -11,7 +11,8 @@ use Rattle.treap.specs.Draws.{Window, Touches, Seen, Best, Part, whole, deeper, 
 use Rattle.treap.proofs.Ranks.{decides_outranks}
 use Rattle.treap.proofs.Shown.{one_tree_lem}
 use Rattle.treap.proofs.Counts.{same, same_is, is_same}
-use Rattle.treap.proofs.Lists.{in_first, in_last, in_append, in_both, apart_under, apart_parts, apart_shorter}
+use Rattle.treap.proofs.Lists.{in_four, from_four, four_in, four_under, each_apart, by_quadrant, quarter, apart_shorter}
+use Rattle.treap.proofs.Parts.{part_of_part}
 use Rattle.treap.proofs.Bests.{one_best, best_of}
 use Rattle.treap.proofs.Needed.{Reaches, Wanted, Numbered, wanted_is_needed, wanted_is_enough}
 
@@ -63,18 +64,10 @@ decides_touches s w = (
       ),
 )
 
-decides_or : (a b : Bool) {A B : Type 0} → Decides a A → Decides b B → Decides (a || b) (A ⊎ B)
-decides_or true b d e = (λ h. inl (d.0 refl), λ h. refl)
-decides_or false b d e = (λ h. inr (e.0 h), elim [ inl h ↦ absurd (false≢true (d.1 h)) | inr h ↦ e.1 h ])
-
-decides_and : (a b : Bool) {A B : Type 0} → Decides a A → Decides b B → Decides (a && b) (A × B)
-decides_and true b d e = (λ h. (d.0 refl, e.0 h), λ h. e.1 h.1)
-decides_and false b d e = (λ h. absurd (false≢true h), λ h. d.1 h.0)
-
 decides_reaches : (k : Kind) (l : List Spot) (m : Spot) → Decides (reaches k l m) (Reaches k l m)
 decides_reaches k [] m = (false≢true, λ h. absurd h)
 decides_reaches k (x ∷ []) m =
-    decides_or (same m x) (outranks k m x) (same_is m x, is_same m x) (decides_outranks k m x)
+    Decides-or (same m x) (outranks k m x) (same_is m x, is_same m x) (decides_outranks k m x)
 decides_reaches k (x ∷ y ∷ l) m = decides_reaches k (y ∷ l) m
 
 pub touches? : (s : Square) (w : Window) → Dec (Touches s w)
@@ -84,28 +77,29 @@ touches? s w = go (touches s w) (decides_touches s w)
     go true d = yes (d.0 refl)
     go false d = no (λ h. false≢true (d.1 h))
 
-pub part_of_part : {s : Square} {t : Tree} {r : Square} {u : Tree} {v : Square} {z : Tree} → Part s t r u → Part r u v z → Part s t v z
-part_of_part p whole = p
-part_of_part p (deeper g q) = deeper (part_of_part p g) q
-
-keep : Bool → ℕ → List ℕ → List ℕ
+abbrev keep : Bool → ℕ → List ℕ → List ℕ
 keep true i l = i ∷ l
 keep false i l = l
 
-in_four : (S a b c d : List ℕ) (x : ℕ) → (In a x → In S x) → (In b x → In S x) → (In c x → In S x) → (In d x → In S x) → In (a ++ (b ++ (c ++ d))) x → In S x
-in_four S a b c d x fa fb fc fd h = either₃ (in_append a (b ++ (c ++ d)) x h)
-  where
-    either₁ : In c x ⊎ In d x → In S x
-    either₁ (inl p) = fc p
-    either₁ (inr p) = fd p
+in_keep : (v : Bool) (i : ℕ) (r : List ℕ) (x : ℕ) → In r x → In (keep v i r) x
+in_keep true i r x h = inr h
+in_keep false i r x h = h
 
-    either₂ : In b x ⊎ In (c ++ d) x → In S x
-    either₂ (inl p) = fb p
-    either₂ (inr p) = either₁ (in_append c d x p)
+kept : (v : Bool) → v ≡ true → (i : ℕ) (z : List ℕ) → In (keep v i z) i
+kept true h i z = inl refl
+kept false h i z = absurd (false≢true h)
 
-    either₃ : In a x ⊎ In (b ++ (c ++ d)) x → In S x
-    either₃ (inl p) = fa p
-    either₃ (inr p) = either₂ (in_append b (c ++ d) x p)
+keep_cases : (v : Bool) (S : List ℕ) (i x : ℕ) → (v ≡ true → In S i) → (z : List ℕ) → (In z x → In S x) → In (keep v i z) x → In S x
+keep_cases true S i x t z g (inl e) = subst (λ (j : ℕ). In S j) (sym e) (t refl)
+keep_cases true S i x t z g (inr h) = g h
+keep_cases false S i x t z g h = g h
+
+length_keep : (v : Bool) (i : ℕ) (r : List ℕ) (c : ℕ) → length r ≡ c → length (keep v i r) ≡ one_if v + c
+length_keep v i r c e = grind arith
+
+apart_keep : (v : Bool) (i : ℕ) (z : List ℕ) → (In z i → ⊥) → Apart z → Apart (keep v i z)
+apart_keep true i z h g = (h, g)
+apart_keep false i z h g = g
 
 module _ (k : Kind) (w : Window) (n : ℕ) (l : List Spot) where
   -- the box of the square s with the mark m is wanted, as a test
@@ -114,8 +108,8 @@ module _ (k : Kind) (w : Window) (n : ℕ) (l : List Spot) where
 
   decides_wants : (s : Square) (m : Spot) → Decides (wants s m) (Touches s w × ((length l < n) ⊎ Reaches k l m))
   decides_wants s m =
-      decides_and (touches s w) _ (decides_touches s w)
-      (decides_or (ltb (length l) n) (reaches k l m) (grind (arith, nat_tests), grind (arith, nat_tests)) (decides_reaches k l m))
+      Decides-and (touches s w) _ (decides_touches s w)
+      (Decides-or (ltb (length l) n) (reaches k l m) (grind (arith, nat_tests), grind (arith, nat_tests)) (decides_reaches k l m))
 
   -- the numbers of the wanted boxes
   gather : Square → Tree → List ℕ
@@ -140,10 +134,9 @@ module _ (k : Kind) (w : Window) (n : ℕ) (l : List Spot) where
       let ed = tally_unnumbered (quadrant br s) d in
       λ z. one_if (wants s m) + (ea z + (eb z + (ec z + ed z)))
 
-  length_keep : (v : Bool) (i : ℕ) (r : List ℕ) (c : ℕ) → length r ≡ c → length (keep v i r) ≡ one_if v + c
-  unfolding keep
-  length_keep true i r c e = omega arith
-  length_keep false i r c e = omega arith
+  -- what is gathered in a quadrant
+  abbrev part : Square → Tree → Tree → Tree → Tree → Quadrant → List ℕ
+  part s a b c d q = gather (quadrant q s) (pick a b c d q)
 
   length_gather : (s : Square) (t : Tree) → length (gather s t) ≡ tally s t
   unfolding gather
@@ -155,26 +148,11 @@ module _ (k : Kind) (w : Window) (n : ℕ) (l : List Spot) where
       let ed = length_gather (quadrant br s) d in
       length_keep (wants s m) i _ _ (simp length-append (omega arith))
 
-  in_keep : (v : Bool) (i : ℕ) (r : List ℕ) (x : ℕ) → In r x → In (keep v i r) x
-  unfolding keep
-  in_keep true i r x h = inr h
-  in_keep false i r x h = h
-
-  in_gather_quadrant : (s : Square) (i : ℕ) (m : Spot) (a b c d : Tree) (q : Quadrant) (x : ℕ) → In (gather (quadrant q s) (pick a b c d q)) x → In (gather s (box i m a b c d)) x
-  unfolding gather
-  in_gather_quadrant s i m a b c d tl x h = in_keep (wants s m) i _ x (in_first _ _ x h)
-  in_gather_quadrant s i m a b c d tr x h = in_keep (wants s m) i _ x (in_last (gather (quadrant tl s) a) _ x (in_first _ _ x h))
-  in_gather_quadrant s i m a b c d bl x h = in_keep (wants s m) i _ x (in_last (gather (quadrant tl s) a) _ x (in_last (gather (quadrant tr s) b) _ x (in_first _ _ x h)))
-  in_gather_quadrant s i m a b c d br x h = in_keep (wants s m) i _ x (in_last (gather (quadrant tl s) a) _ x (in_last (gather (quadrant tr s) b) _ x (in_last (gather (quadrant bl s) c) _ x h)))
-
   in_gather_part : {s : Square} {t : Tree} {r : Square} {u : Tree} → Part s t r u → (x : ℕ) → In (gather r u) x → In (gather s t) x
+  unfolding gather
   in_gather_part whole x h = h
-  in_gather_part (deeper {r = r} {i = i} {m = m} {a = a} {b = b} {c = c} {d = d} p q) x h = in_gather_part p x (in_gather_quadrant r i m a b c d q x h)
-
-  kept : (v : Bool) → v ≡ true → (i : ℕ) (z : List ℕ) → In (keep v i z) i
-  unfolding keep
-  kept true h i z = inl refl
-  kept false h i z = absurd (false≢true h)
+  in_gather_part (deeper {r = r} {i = i} {m = m} {a = a} {b = b} {c = c} {d = d} p q) x h =
+      in_gather_part p x (in_keep (wants r m) i _ x (in_four (part r a b c d) q x h))
 
   wanted_gathered : (r : Square) (u : Tree) → Wanted k w n l r u → Numbered (gather r u) u
   unfolding gather
@@ -185,56 +163,34 @@ module _ (k : Kind) (w : Window) (n : ℕ) (l : List Spot) where
   numbered_part none p h = h
   numbered_part (box i m a b c d) p h = in_gather_part p i h
 
-  keep_cases : (v : Bool) (S : List ℕ) (i x : ℕ) → (v ≡ true → In S i) → (z : List ℕ) → (In z x → In S x) → In (keep v i z) x → In S x
-  unfolding keep
-  keep_cases true S i x t z g (inl e) = subst (λ (j : ℕ). In S j) (sym e) (t refl)
-  keep_cases true S i x t z g (inr h) = g h
-  keep_cases false S i x t z g h = g h
-
   -- a set that has the wanted boxes has what is gathered
   gathered_in : (S : List ℕ) (s : Square) (t : Tree) → ((r : Square) (u : Tree) → Part s t r u → Wanted k w n l r u → Numbered S u) → (x : ℕ) → In (gather s t) x → In S x
   unfolding gather
   gathered_in S s none f x h = absurd h
   gathered_in S s (box i m a b c d) f x h =
+      let down = λ (q : Quadrant) (r : Square) (u : Tree) (p : Part (quadrant q s) (pick a b c d q) r u). f r u (part_of_part (deeper whole q) p) in
+      let each : (q : Quadrant) → In (part s a b c d q) x → In S x =
+      by_quadrant _ (gathered_in S (quadrant tl s) a (down tl) x) (gathered_in S (quadrant tr s) b (down tr) x) (gathered_in S (quadrant bl s) c (down bl) x) (gathered_in S (quadrant br s) d (down br) x) in
       keep_cases (wants s m) S i x (λ e. f s (box i m a b c d) whole ((decides_wants s m).0 e)) _
-      (in_four S _ _ _ _ x (gathered_in S (quadrant tl s) a (part tl) x) (gathered_in S (quadrant tr s) b (part tr) x) (gathered_in S (quadrant bl s) c (part bl) x) (gathered_in S (quadrant br s) d (part br) x))
-      h
-    where
-      part : (q : Quadrant) (r : Square) (u : Tree) → Part (quadrant q s) (pick a b c d q) r u → Wanted k w n l r u → Numbered S u
-      part q r u p v = f r u (part_of_part (deeper whole q) p) v
+      (λ g. let r = from_four (part s a b c d) x g in each r.0 r.1) h
 
   gathered_numbers : (s : Square) (t : Tree) → (x : ℕ) → In (gather s t) x → In (numbers t) x
   unfolding gather
   gathered_numbers s none x h = h
   gathered_numbers s (box i m a b c d) x h =
-      keep_cases (wants s m) (numbers (box i m a b c d)) i x (λ _. inl refl) _
-      (λ g. inr (in_both (numbers a) _ _ _ (gathered_numbers (quadrant tl s) a) (in_both (numbers b) _ _ _ (gathered_numbers (quadrant tr s) b) (in_both (numbers c) _ _ _ (gathered_numbers (quadrant bl s) c) (gathered_numbers (quadrant br s) d))) x g))
-      h
-
-  apart_keep : (v : Bool) (i : ℕ) (z : List ℕ) → (In z i → ⊥) → Apart z → Apart (keep v i z)
-  unfolding keep
-  apart_keep true i z h g = (h, g)
-  apart_keep false i z h g = g
+      let each : (q : Quadrant) (x : ℕ) → In (part s a b c d q) x → In (quarter a b c d q) x =
+      by_quadrant _ (gathered_numbers (quadrant tl s) a) (gathered_numbers (quadrant tr s) b) (gathered_numbers (quadrant bl s) c) (gathered_numbers (quadrant br s) d) in
+      keep_cases (wants s m) (numbers (box i m a b c d)) i x (λ _. inl refl) _ (λ g. inr (four_in (quarter a b c d) (part s a b c d) each x g)) h
 
   gather_apart : (s : Square) (t : Tree) → Apart (numbers t) → Apart (gather s t)
   unfolding gather
   gather_apart s none h = tt
   gather_apart s (box i m a b c d) h =
-      let pa = apart_parts (numbers a) _ h.1 in
-      let pb = apart_parts (numbers b) _ pa.1 in
-      let pc = apart_parts (numbers c) _ pb.1 in
-      let na = gathered_numbers (quadrant tl s) a in
-      let nb = gathered_numbers (quadrant tr s) b in
-      let nc = gathered_numbers (quadrant bl s) c in
-      let nd = gathered_numbers (quadrant br s) d in
-      let ncd = in_both (numbers c) (numbers d) _ _ nc nd in
-      let nbcd = in_both (numbers b) _ _ _ nb ncd in
-      apart_keep (wants s m) i _ (λ g. h.0 (in_both (numbers a) _ _ _ na nbcd i g))
-      (apart_under (numbers a) _ _ _ h.1 (gather_apart (quadrant tl s) a pa.0)
-      (apart_under (numbers b) _ _ _ pa.1 (gather_apart (quadrant tr s) b pb.0)
-      (apart_under (numbers c) (numbers d) _ _ pb.1 (gather_apart (quadrant bl s) c pc.0) (gather_apart (quadrant br s) d pc.1) nc nd)
-      nb ncd)
-      na nbcd)
+      let below = each_apart (quarter a b c d) h.1 in
+      let within = λ (q : Quadrant). gathered_numbers (quadrant q s) (pick a b c d q) in
+      apart_keep (wants s m) i _ (λ g. h.0 (four_in (quarter a b c d) (part s a b c d) within i g))
+      (four_under (quarter a b c d) (part s a b c d) within h.1
+      (by_quadrant _ (gather_apart (quadrant tl s) a (below tl)) (gather_apart (quadrant tr s) b (below tr)) (gather_apart (quadrant bl s) c (below bl)) (gather_apart (quadrant br s) d (below br))))
 
 -- the best marks of a window, of which no two stand in one cell, are what a draw lists, and the wanted boxes what it opens
 pub best_draws : (k : Kind)

@@ -1,5 +1,5 @@
 -- Marks of a tree by sums: a mark is shown where it is counted.
-use Rattle.std.proofs.Common.{◌≡◌, ℕ, ◌+◌, ◌≤◌, Bool, true, false, ◌&&◌, eqb, ◌⊎◌, refl, ap, inl, inr, arith, eq-eqb, ne_eqb, eqb-true}
+use Rattle.std.proofs.Common.{◌≡◌, ℕ, ◌≤◌, Bool, true, false, ◌&&◌, eqb, refl, ap, arith, eq-eqb, ne_eqb, eqb-true}
 use Rattle.treap.specs.Spots.{Spot}
 use Rattle.treap.specs.Trees.{Tree, none, box, Shows}
 use Rattle.treap.specs.Sums.{one_if, mark_sum, at_cell, in_cell}
@@ -54,36 +54,11 @@ has_self x y e = ap one_if (is_same x y e)
 
 pub shows_has : (x : Spot) (t : Tree) → Shows t x → 1 ≤ has x t
 shows_has x none h = absurd h
-shows_has x (box n m a b c d) (inl e) = omega (arith, has_self x m e)
-shows_has x (box n m a b c d) (inr (inl h)) = omega (arith, shows_has x a h)
-shows_has x (box n m a b c d) (inr (inr (inl h))) = omega (arith, shows_has x b h)
-shows_has x (box n m a b c d) (inr (inr (inr (inl h)))) = omega (arith, shows_has x c h)
-shows_has x (box n m a b c d) (inr (inr (inr (inr h)))) = omega (arith, shows_has x d h)
+shows_has x (box n m a b c d) h = grind (arith, has_self x m, shows_has x a, shows_has x b, shows_has x c, shows_has x d)
 
 pub has_shows : (x : Spot) (t : Tree) → 1 ≤ has x t → Shows t x
 has_shows x none h = absurd (omega arith)
-has_shows x (box n m a b c d) h =
-    go (same x m) (has x a) (has x b) (has x c) (has x d) (omega arith) (same_is x m) (has_shows x a) (has_shows x b) (has_shows x c) (has_shows x d)
-  where
-    go : (v : Bool) (p q r s : ℕ)
-        → 1 ≤ one_if v + p + q + r + s
-        → (v ≡ true → x ≡ m)
-        → (1 ≤ p → Shows a x)
-        → (1 ≤ q → Shows b x)
-        → (1 ≤ r → Shows c x)
-        → (1 ≤ s → Shows d x)
-        → Shows (box n m a b c d) x
-    go true p q r s h e fa fb fc fd = inl (e refl)
-    go false p q r s h e fa fb fc fd = part (some p q r s (omega arith))
-      where
-        some : (p q r s : ℕ) → 1 ≤ p + q + r + s → (1 ≤ p) ⊎ (1 ≤ q) ⊎ (1 ≤ r) ⊎ (1 ≤ s)
-        some p q r s h = grind arith
-
-        part : (1 ≤ p) ⊎ (1 ≤ q) ⊎ (1 ≤ r) ⊎ (1 ≤ s) → Shows (box n m a b c d) x
-        part (inl k) = inr (inl (fa k))
-        part (inr (inl k)) = inr (inr (inl (fb k)))
-        part (inr (inr (inl k))) = inr (inr (inr (inl (fc k))))
-        part (inr (inr (inr k))) = inr (inr (inr (inr (fd k))))
+has_shows x (box n m a b c d) h = grind (arith, same_is x m, has_shows x a, has_shows x b, has_shows x c, has_shows x d)
 
 pub mark_sum_le : (f g : Spot → ℕ) (t : Tree) → ((m : Spot) → f m ≤ g m) → mark_sum f t ≤ mark_sum g t
 mark_sum_le f g none h = omega arith
@@ -95,6 +70,4 @@ pub has_in_cell : (x : Spot) (t : Tree) → has x t ≤ in_cell x.row x.col t
 has_in_cell x t = mark_sum_le _ _ t (λ y. and_le (at_cell x.row x.col y) (eqb x.grade y.grade))
   where
     and_le : (a b : Bool) → one_if (a && b) ≤ one_if a
-    and_le true true = omega arith
-    and_le true false = omega arith
-    and_le false b = omega arith
+    and_le a b = grind arith

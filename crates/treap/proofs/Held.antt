@@ -1,8 +1,8 @@
 -- A number finds a box exactly where a box has it.
 use Rattle.std.proofs.Common.{◌≡◌, ℕ, ◌+◌, Bool, true, false, cond, eqb, refl, arith}
-use Rattle.treap.specs.Trees.{Tree, none, box, or, find}
+use Rattle.treap.specs.Trees.{Tree, tl, tr, bl, br, none, box, pick, or, find}
 use Rattle.treap.specs.Sums.{one_if, held}
-use Rattle.treap.proofs.Find.{box_none, or_none}
+use Rattle.treap.proofs.Find.{box_none, chosen_none}
 
 one_if_none : (v : Bool) → one_if v ≡ 0 → v ≡ false
 one_if_none true e = absurd (omega arith)
@@ -27,7 +27,5 @@ none_unheld n (box i m a b c d) e = go (eqb n i) e (none_unheld n a) (none_unhel
         → one_if v + held n a + held n b + held n c + held n d ≡ 0
     go true f fa fb fc fd = absurd (box_none f)
     go false f fa fb fc fd =
-        let x = or_none (find n a) _ f in
-        let y = or_none (find n b) _ x.1 in
-        let z = or_none (find n c) _ y.1 in
-        omega (arith, fa x.0, fb y.0, fc z.0, fd z.1)
+        let no = chosen_none (λ q. find n (pick a b c d q)) f in
+        omega (arith, fa (no tl), fb (no tr), fc (no bl), fd (no br))

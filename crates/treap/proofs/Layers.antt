@@ -6,7 +6,7 @@ use Rattle.treap.specs.Spots.{Spot, Outranks}
 use Rattle.treap.specs.Trees.{Quadrant, tl, tr, bl, br, Square, quadrant, Tree, none, box, pick, Shows, Hangs, Ordered, In, Apart, numbers}
 use Rattle.treap.specs.Layers.{kept, floor, FloorShows, moved_spot, moved_square, moved, ShiftShows}
 use Rattle.treap.proofs.Shown.{root_over, split}
-use Rattle.treap.proofs.Lists.{in_both, apart_under, apart_parts}
+use Rattle.treap.proofs.Lists.{four_in, four_under, each_apart, by_quadrant, quarter}
 
 either_map : {A B C D : Type 0} → (A → C) → (B → D) → A ⊎ B → C ⊎ D
 either_map f g (inl x) = inl (f x)
@@ -93,24 +93,20 @@ module _ (k : Kind) (L : Laws k) (g : ℕ) where
   floor_numbers none j h = h
   floor_numbers (box i m a b c d) j h =
       either_map (λ e. e)
-      (in_both (numbers a) _ (numbers (floor k g a)) _ (floor_numbers a) (in_both (numbers b) _ (numbers (floor k g b)) _ (floor_numbers b) (in_both (numbers c) _ (numbers (floor k g c)) _ (floor_numbers c) (floor_numbers d))) j)
+      (four_in (quarter a b c d) (quarter (floor k g a) (floor k g b) (floor k g c) (floor k g d)) (by_quadrant _ (floor_numbers a) (floor_numbers b) (floor_numbers c) (floor_numbers d)) j)
       (in_kept (k.above m.grade g) (box i m (floor k g a) (floor k g b) (floor k g c) (floor k g d)) j h)
 
   floor_apart : (t : Tree) → Apart (numbers t) → Apart (numbers (floor k g t))
   floor_apart none h = tt
   floor_apart (box i m a b c d) h =
-      let pa = apart_parts (numbers a) _ h.1 in
-      let pb = apart_parts (numbers b) _ pa.1 in
-      let pc = apart_parts (numbers c) _ pb.1 in
-      let ncd = in_both (numbers c) (numbers d) (numbers (floor k g c)) (numbers (floor k g d)) (floor_numbers c) (floor_numbers d) in
-      let nbcd = in_both (numbers b) _ (numbers (floor k g b)) _ (floor_numbers b) ncd in
+      let below = each_apart (quarter a b c d) h.1 in
+      let floors = quarter (floor k g a) (floor k g b) (floor k g c) (floor k g d) in
+      let within : (q : Quadrant) (j : ℕ) → In (floors q) j → In (quarter a b c d q) j =
+      by_quadrant _ (floor_numbers a) (floor_numbers b) (floor_numbers c) (floor_numbers d) in
       apart_kept (k.above m.grade g) (box i m (floor k g a) (floor k g b) (floor k g c) (floor k g d)) (
-        λ p. h.0 (in_both (numbers a) _ (numbers (floor k g a)) _ (floor_numbers a) nbcd i p),
-        apart_under (numbers a) _ _ _ h.1 (floor_apart a pa.0)
-            (apart_under (numbers b) _ _ _ pa.1 (floor_apart b pb.0)
-            (apart_under (numbers c) (numbers d) _ _ pb.1 (floor_apart c pc.0) (floor_apart d pc.1) (floor_numbers c) (floor_numbers d))
-            (floor_numbers b) ncd)
-            (floor_numbers a) nbcd,
+        λ p. h.0 (four_in (quarter a b c d) floors within i p),
+        four_under (quarter a b c d) floors within h.1
+            (by_quadrant _ (floor_apart a (below tl)) (floor_apart b (below tr)) (floor_apart c (below bl)) (floor_apart d (below br))),
       )
 
 pub floor_shows_lem : FloorShows

@@ -1,15 +1,14 @@
 -- A floor over a lawful meaning is lawful, and so is a lawful meaning moved; and what they answer.
-use Rattle.std.proofs.Common.{◌≡◌, ℕ, zero, suc, ◌+◌, ◌^◌, ◌≤◌, Bool, true, false, cond, ◌||◌, eqb, ltb, ◌⊎◌, List, [], ◌∷◌, ◌++◌, None, sym, refl, ap, ◌∙◌, subst, inl, inr, arith, ltb-false}
-use native.Mathlib.Decide.{ℕ_discrete}
+use Rattle.std.proofs.Common.{◌≡◌, ℕ, zero, suc, ◌+◌, ◌^◌, ◌≤◌, Bool, true, false, cond, ◌||◌, eqb, ltb, ◌⊎◌, List, [], ◌∷◌, None, sym, refl, ap, ◌∙◌, subst, inl, inr, arith, ltb-false}
 use Rattle.std.proofs.lemmas.Bool.{false≢true}
 use Rattle.grade.specs.Kind.{Kind, Laws}
 use Rattle.treap.specs.Refusals.{first}
 use Rattle.treap.specs.Spots.{Spot}
-use Rattle.treap.specs.Trees.{Quadrant, tl, tr, bl, br, Square, quadrant, Tree, none, box, pick, number, or, sub, find, count, numbers, Shows, Ordered, In, Apart, Meaning, Lawful}
+use Rattle.treap.specs.Trees.{Quadrant, tl, tr, bl, br, Square, quadrant, Tree, none, box, pick, number, or, sub, find, count, numbers, Shows, Ordered, Apart, Meaning, Lawful}
 use Rattle.treap.specs.Layers.{kept, floor, moved_spot, moved, floored, shifted, shift_refusal}
-use Rattle.treap.proofs.Lists.{in?, in_first, in_last, apart_parts, apart_not_both}
+use Rattle.treap.proofs.Lists.{each_apart, by_quadrant, quarter}
 use Rattle.treap.proofs.Shown.{split, root_over}
-use Rattle.treap.proofs.Find.{find_miss, find_shown, or_right}
+use Rattle.treap.proofs.Find.{find_shown, chosen, chosen_is, find_once}
 use Rattle.treap.proofs.Layers.{level_from_outranks, floor_shows_lem, shift_shows_lem}
 
 module _ (k : Kind) (L : Laws k) (g : ℕ) where
@@ -31,57 +30,35 @@ module _ (k : Kind) (L : Laws k) (g : ℕ) where
       high (inr y) =
           L.trans m.grade x.grade g (level_from_outranks k L m x (root_over k L s i m a b c d h y.0 x y.1)) p
 
-  or_floor : (x y : Tree) → (x ≡ none) ⊎ (y ≡ none) → or (floor k g x) (floor k g y) ≡ floor k g (or x y)
-  or_floor x y (inl e) = rw e
-  or_floor x y (inr e) = rw e (or_right (floor k g x) ∙ ap (floor k g) (sym (or_right x)))
-
-  one_side : (n : ℕ) (a : Tree) (l : List ℕ) (y : Tree) → Apart (numbers a ++ l) → ((In l n → ⊥) → y ≡ none) → (find n a ≡ none) ⊎ (y ≡ none)
-  one_side n a l y h f = go (in? ℕ_discrete (numbers a) n)
-    where
-      go : In (numbers a) n ⊎ (In (numbers a) n → ⊥) → (find n a ≡ none) ⊎ (y ≡ none)
-      go (inl p) = inr (f (λ q. apart_not_both (numbers a) l h n p q))
-      go (inr p) = inl (find_miss n a p)
-
   abbrev Same : ℕ → Tree → Type 0
   Same n t = find n (floor k g t) ≡ floor k g (find n t)
 
-  find_kept : (n i : ℕ) (m : Spot) (a b c d : Tree) → Apart (numbers (box i m a b c d)) → Same n a → Same n b → Same n c → Same n d → k.above m.grade g ≡ true → find n (box i m (floor k g a) (floor k g b) (floor k g c) (floor k g d)) ≡ floor k g (find n (box i m a b c d))
-  find_kept n i m a b c d h ea eb ec ed up = go (eqb n i)
+  find_kept : (n i : ℕ) (m : Spot) (a b c d : Tree) → Apart (numbers (box i m a b c d)) → ((q : Quadrant) → Same n (pick a b c d q)) → k.above m.grade g ≡ true → find n (box i m (floor k g a) (floor k g b) (floor k g c) (floor k g d)) ≡ floor k g (find n (box i m a b c d))
+  find_kept n i m a b c d h each up = go (eqb n i)
     where
-      pa : Apart (numbers a) × Apart (numbers b ++ (numbers c ++ numbers d))
-      pa = apart_parts (numbers a) _ h.1
+      o : (q : Quadrant) × ((p : Quadrant) → (p ≡ q → ⊥) → find n (pick a b c d p) ≡ none)
+      o = find_once n i m a b c d h
 
-      pb : Apart (numbers b) × Apart (numbers c ++ numbers d)
-      pb = apart_parts (numbers b) _ pa.1
-
-      miss_cd : (In (numbers c ++ numbers d) n → ⊥) → or (find n c) (find n d) ≡ none
-      miss_cd f = rw (find_miss n c (λ p. f (in_first (numbers c) _ n p)), find_miss n d (λ p. f (in_last (numbers c) _ n p)))
-
-      miss_bcd : (In (numbers b ++ (numbers c ++ numbers d)) n → ⊥) → or (find n b) (or (find n c) (find n d)) ≡ none
-      miss_bcd f = rw (find_miss n b (λ p. f (in_first (numbers b) _ n p))) (miss_cd (λ p. f (in_last (numbers b) _ n p)))
-
-      all : or (find n (floor k g a)) (or (find n (floor k g b)) (or (find n (floor k g c)) (find n (floor k g d)))) ≡ floor k g (or (find n a) (or (find n b) (or (find n c) (find n d))))
+      all : chosen (λ q. find n (floor k g (pick a b c d q))) ≡ floor k g (chosen (λ q. find n (pick a b c d q)))
       all =
-          rw (ea, eb, ec, ed)
-          (ap (λ (z : Tree). or (floor k g (find n a)) (or (floor k g (find n b)) z)) (or_floor (find n c) (find n d) (one_side n c (numbers d) (find n d) pb.1 (find_miss n d)))
-          ∙ ap (λ (z : Tree). or (floor k g (find n a)) z) (or_floor (find n b) _ (one_side n b _ _ pa.1 miss_cd))
-          ∙ or_floor (find n a) _ (one_side n a _ _ h.1 miss_bcd))
+          chosen_is (λ q. find n (floor k g (pick a b c d q))) o.0 (λ p ne. each p ∙ ap (floor k g) (o.1 p ne))
+          ∙ each o.0
+          ∙ ap (floor k g) (sym (chosen_is (λ q. find n (pick a b c d q)) o.0 o.1))
 
-      go : (v : Bool) → cond v (box i m (floor k g a) (floor k g b) (floor k g c) (floor k g d)) (or (find n (floor k g a)) (or (find n (floor k g b)) (or (find n (floor k g c)) (find n (floor k g d))))) ≡ floor k g (cond v (box i m a b c d) (or (find n a) (or (find n b) (or (find n c) (find n d)))))
+      go : (v : Bool) → cond v (box i m (floor k g a) (floor k g b) (floor k g c) (floor k g d)) (chosen (λ q. find n (floor k g (pick a b c d q)))) ≡ floor k g (cond v (box i m a b c d) (chosen (λ q. find n (pick a b c d q))))
       go true = rw up
       go false = all
 
   pub find_floor : (n : ℕ) (s : Square) (t : Tree) → Ordered k s t → Apart (numbers t) → Same n t
   find_floor n s none h ap' = refl
   find_floor n s (box i m a b c d) h ap' =
-      let pa = apart_parts (numbers a) _ ap'.1 in
-      let pb = apart_parts (numbers b) _ pa.1 in
-      let pc = apart_parts (numbers c) _ pb.1 in
-      go (k.above m.grade g) refl (find_floor n (quadrant tl s) a h.2.0 pa.0) (find_floor n (quadrant tr s) b h.2.1 pb.0) (find_floor n (quadrant bl s) c h.2.2 pc.0) (find_floor n (quadrant br s) d h.2.3 pc.1)
+      let below = each_apart (quarter a b c d) ap'.1 in
+      go (k.above m.grade g) refl
+      (by_quadrant _ (find_floor n (quadrant tl s) a h.2.0 (below tl)) (find_floor n (quadrant tr s) b h.2.1 (below tr)) (find_floor n (quadrant bl s) c h.2.2 (below bl)) (find_floor n (quadrant br s) d h.2.3 (below br)))
     where
-      go : (v : Bool) → k.above m.grade g ≡ v → Same n a → Same n b → Same n c → Same n d → find n (kept v (box i m (floor k g a) (floor k g b) (floor k g c) (floor k g d))) ≡ floor k g (find n (box i m a b c d))
-      go true e ea eb ec ed = find_kept n i m a b c d ap' ea eb ec ed e
-      go false e ea eb ec ed = sym (none_left (find n (box i m a b c d)) (λ x v. under_short s i m a b c d h e x (find_shown n (box i m a b c d) x v)))
+      go : (v : Bool) → k.above m.grade g ≡ v → ((q : Quadrant) → Same n (pick a b c d q)) → find n (kept v (box i m (floor k g a) (floor k g b) (floor k g c) (floor k g d))) ≡ floor k g (find n (box i m a b c d))
+      go true e each = find_kept n i m a b c d ap' each e
+      go false e each = sym (none_left (find n (box i m a b c d)) (λ x v. under_short s i m a b c d h e x (find_shown n (box i m a b c d) x v)))
 
   shows_sub : (q : ℕ) (t : Tree) (x : Spot) → Shows (sub q t) x → Shows t x
   shows_sub q none x h = h

@@ -1,17 +1,19 @@
 -- The search's steps keep its invariant, and its end is the draw's answer.
-use Rattle.std.proofs.Common.{◌≡◌, ℕ, suc, ◌<◌, ◌≤◌, ◌⊎◌, List, [], ◌∷◌, ◌++◌, map, length, sym, refl, ap, ◌∙◌, subst, subst₂, inl, inr, arith, length-append}
+use Rattle.std.proofs.Common.{◌≡◌, ℕ, suc, ◌<◌, ◌≤◌, ◌⊎◌, List, [], ◌∷◌, ◌++◌, map, length, Some, sym, refl, ap, subst, subst₂, inl, inr, arith, length-append}
 use native.Mathlib.Decide.{dec_lt}
 use Rattle.grade.specs.Kind.{Kind, Laws}
 use Rattle.treap.specs.Spots.{Spot, Outranks}
-use Rattle.treap.specs.Trees.{Quadrant, tl, tr, bl, br, Square, Within, quadrant, Tree, none, box, pick, Shows, Holds, Hangs, Ordered, In, Apart, Lone, numbers}
+use Rattle.treap.specs.Trees.{Quadrant, Square, Within, quadrant, Tree, none, box, pick, Shows, Holds, Hangs, Ordered, In, Apart, Lone, numbers}
 use Rattle.treap.specs.Draws.{Window, Sees, Touches, Seen, Falls, LastOver, Part, whole, deeper, Justifies, cell, Draws}
 use Rattle.treap.specs.Searches.{Node, tree, child, Share, Spread}
 use Rattle.treap.proofs.Ranks.{irrefl_eq, trans, tri}
-use Rattle.treap.proofs.Shown.{below, split, hangs, lawful_quadrant, within_quadrant, root_over}
+use Rattle.treap.proofs.Shown.{split, hangs, lawful_quadrant, within_quadrant, root_over}
 use Rattle.treap.proofs.Lists.{in_first, in_last, in_append, apart_shorter}
 use Rattle.treap.proofs.Bests.{Chain, chain_from_falls}
 use Rattle.treap.proofs.Needed.{Reaches, Wanted, Numbered, not_both, part_lawful, touches_up, wanted_is_needed, wanted_is_enough}
-use Rattle.treap.proofs.Counted.{part_of_part}
+use Rattle.treap.proofs.Find.{find_part}
+use Rattle.treap.proofs.Parts.{Boxed, part_shown, part_numbers, shown_part, part_first}
+pub use Rattle.treap.proofs.Parts.{no_part}
 
 -- the boxes of the list fell one after the other, the last one first
 abbrev pub Fell : Kind → List Node → Type 0
@@ -102,14 +104,6 @@ SearchEnds =
 
 -- parts
 
-abbrev pub Boxed : Tree → Type 0
-Boxed none = ⊥
-Boxed (box i m a b c d) = Unit {0}
-
-pub no_part : {r : Square} {x : Square} {y : Tree} → Part r none x y → Boxed y → ⊥
-no_part whole z = z
-no_part (deeper a b) z = no_part a tt
-
 level_above : (k : Kind) (r : Square) (m : Spot) (u : Tree) → Hangs k r m u → Boxed u → 0 < r.level
 level_above k r m none h g = absurd g
 level_above k r m (box i x a b c d) h g = h.0
@@ -119,55 +113,6 @@ touches_part k w whole h g v = v
 touches_part k w (deeper {r = r} {i = i} {m = m} {a = a} {b = b} {c = c} {d = d} p q) h g v =
     let hr = part_lawful k p h in
     touches_part k w p h tt (touches_up r q w (level_above k r m (pick a b c d q) (hangs k r i m a b c d hr q) g) v)
-
-pub part_shown : {s : Square} {t : Tree} {r : Square} {u : Tree} → Part s t r u → (x : Spot) → Shows u x → Shows t x
-part_shown whole x h = h
-part_shown (deeper {r = r} {i = i} {m = m} {a = a} {b = b} {c = c} {d = d} p q) x h = part_shown p x (below a b c d i m x q h)
-
--- the numbers of a part are numbers of the whole
-pub numbers_quadrant : (i : ℕ) (m : Spot) (a b c d : Tree) (q : Quadrant) (n : ℕ) → In (numbers (pick a b c d q)) n → In (numbers a ++ (numbers b ++ (numbers c ++ numbers d))) n
-numbers_quadrant i m a b c d tl n p = in_first (numbers a) _ n p
-numbers_quadrant i m a b c d tr n p = in_last (numbers a) _ n (in_first (numbers b) _ n p)
-numbers_quadrant i m a b c d bl n p = in_last (numbers a) _ n (in_last (numbers b) _ n (in_first (numbers c) _ n p))
-numbers_quadrant i m a b c d br n p = in_last (numbers a) _ n (in_last (numbers b) _ n (in_last (numbers c) _ n p))
-
-pub part_numbers : {s : Square} {t : Tree} {r : Square} {u : Tree} → Part s t r u → (n : ℕ) → In (numbers u) n → In (numbers t) n
-part_numbers whole n h = h
-part_numbers (deeper {r = r} {i = i} {m = m} {a = a} {b = b} {c = c} {d = d} p q) n h = part_numbers p n (inr (numbers_quadrant i m a b c d q n h))
-
--- a mark that is shown is the mark of a part
-abbrev Marked : Square → Tree → Spot → Type 0
-Marked s t x = (e : Node) × Part s t e.square (tree e) × (e.mark ≡ x)
-
-marked_up : (s : Square) (i : ℕ) (m : Spot) (a b c d : Tree) (x : Spot) (q : Quadrant) → Marked (quadrant q s) (pick a b c d q) x → Marked s (box i m a b c d) x
-marked_up s i m a b c d x q h = (h.0, part_of_part (deeper whole q) h.1, h.2)
-
-pub shown_part : (s : Square) (t : Tree) (x : Spot) → Shows t x → Marked s t x
-shown_part s none x h = absurd h
-shown_part s (box i m a b c d) x (inl e) = (record { square = s; number = i; mark = m; a = a; b = b; c = c; d = d }, whole, sym e)
-shown_part s (box i m a b c d) x (inr (inl h)) = marked_up s i m a b c d x tl (shown_part (quadrant tl s) a x h)
-shown_part s (box i m a b c d) x (inr (inr (inl h))) = marked_up s i m a b c d x tr (shown_part (quadrant tr s) b x h)
-shown_part s (box i m a b c d) x (inr (inr (inr (inl h)))) = marked_up s i m a b c d x bl (shown_part (quadrant bl s) c x h)
-shown_part s (box i m a b c d) x (inr (inr (inr (inr h)))) = marked_up s i m a b c d x br (shown_part (quadrant br s) d x h)
-
-abbrev quadrant_of : Tree → Quadrant → Tree
-quadrant_of none q = none
-quadrant_of (box i m a b c d) q = pick a b c d q
-
--- a part is the whole, or lies in a quadrant
-pub part_first : {s : Square} {i : ℕ} {m : Spot} {a b c d : Tree} {r : Square} {u : Tree} → Part s (box i m a b c d) r u → ((r ≡ s) × (u ≡ box i m a b c d)) ⊎ ((q : Quadrant) × Part (quadrant q s) (pick a b c d q) r u)
-part_first whole = inl (refl, refl)
-part_first {s} {i} {m} {a} {b} {c} {d} (deeper {r = r} {i = j} {m = x} {a = a'} {b = b'} {c = c'} {d = d'} p q) = go (part_first p)
-  where
-    go : ((r ≡ s) × (box j x a' b' c' d' ≡ box i m a b c d)) ⊎ ((z : Quadrant) × Part (quadrant z s) (pick a b c d z) r (box j x a' b' c' d'))
-        → ((quadrant q r ≡ s) × (pick a' b' c' d' q ≡ box i m a b c d)) ⊎ ((z : Quadrant) × Part (quadrant z s) (pick a b c d z) (quadrant q r) (pick a' b' c' d' q))
-    go (inl e) =
-        inr (
-          q,
-          subst₂ (λ (v : Square) (y : Tree). Part (quadrant q s) (pick a b c d q) v y) (sym (ap (quadrant q) e.0)) (sym (ap (λ (y : Tree). quadrant_of y q) e.1))
-              whole,
-        )
-    go (inr e) = inr (e.0, deeper e.1 q)
 
 pub node_eq : (e f : Node) → e.square ≡ f.square → tree e ≡ tree f → e ≡ f
 node_eq e f p q =
@@ -393,63 +338,10 @@ search_passes k L s t h w n done wait l f kids st few best K unseen = (
 
 -- the end
 
--- the boxes of a tree, each its number and its mark
-pairs : Tree → List (ℕ × Spot)
-pairs none = []
-pairs (box i m a b c d) = (i, m) ∷ (pairs a ++ (pairs b ++ (pairs c ++ pairs d)))
-
-firsts : List (ℕ × Spot) → List ℕ
-firsts [] = []
-firsts (p ∷ l) = p.0 ∷ firsts l
-
-firsts_append : (l r : List (ℕ × Spot)) → firsts (l ++ r) ≡ firsts l ++ firsts r
-unfolding firsts
-firsts_append [] r = refl
-firsts_append (p ∷ l) r = ap (λ (z : List ℕ). p.0 ∷ z) (firsts_append l r)
-
-firsts_pairs : (t : Tree) → firsts (pairs t) ≡ numbers t
-unfolding firsts pairs
-firsts_pairs none = refl
-firsts_pairs (box i m a b c d) =
-    let ea = firsts_pairs a in
-    let eb = firsts_pairs b in
-    let ec = firsts_pairs c in
-    let ed = firsts_pairs d in
-    simp (firsts_append, ea, eb, ec, ed)
-
-in_firsts : (l : List (ℕ × Spot)) (p : ℕ × Spot) → In l p → In (firsts l) p.0
-unfolding firsts
-in_firsts [] p h = h
-in_firsts (q ∷ l) p (inl e) = inl (ap (λ (z : ℕ × Spot). z.0) e)
-in_firsts (q ∷ l) p (inr h) = inr (in_firsts l p h)
-
-one_pair : (l : List (ℕ × Spot)) → Apart (firsts l) → (p q : ℕ × Spot) → In l p → In l q → p.0 ≡ q.0 → p.1 ≡ q.1
-unfolding firsts
-one_pair [] h p q hp hq e = absurd hp
-one_pair (r ∷ l) h p q (inl x) (inl y) e = ap (λ (z : ℕ × Spot). z.1) (x ∙ sym y)
-one_pair (r ∷ l) h p q (inl x) (inr y) e = absurd (h.0 (subst (λ (z : ℕ). In (firsts l) z) (sym e ∙ ap (λ (z : ℕ × Spot). z.0) x) (in_firsts l q y)))
-one_pair (r ∷ l) h p q (inr x) (inl y) e = absurd (h.0 (subst (λ (z : ℕ). In (firsts l) z) (e ∙ ap (λ (z : ℕ × Spot). z.0) y) (in_firsts l p x)))
-one_pair (r ∷ l) h p q (inr x) (inr y) e = one_pair l h.1 p q x y e
-
-pairs_quadrant : (i : ℕ) (m : Spot) (a b c d : Tree) (q : Quadrant) (x : ℕ × Spot) → In (pairs (pick a b c d q)) x → In (pairs (box i m a b c d)) x
-unfolding pairs
-pairs_quadrant i m a b c d tl x h = inr (in_first _ _ x h)
-pairs_quadrant i m a b c d tr x h = inr (in_last (pairs a) _ x (in_first _ _ x h))
-pairs_quadrant i m a b c d bl x h = inr (in_last (pairs a) _ x (in_last (pairs b) _ x (in_first _ _ x h)))
-pairs_quadrant i m a b c d br x h = inr (in_last (pairs a) _ x (in_last (pairs b) _ x (in_last (pairs c) _ x h)))
-
-pairs_part : {s : Square} {t : Tree} {r : Square} {u : Tree} → Part s t r u → (x : ℕ × Spot) → In (pairs u) x → In (pairs t) x
-pairs_part whole x h = h
-pairs_part (deeper {r = r} {i = i} {m = m} {a = a} {b = b} {c = c} {d = d} p q) x h = pairs_part p x (pairs_quadrant i m a b c d q x h)
-
 -- two boxes with one number have one mark
-pub one_number : (s : Square) (t : Tree) → Apart (numbers t) → (e f : Node) → Part s t e.square (tree e) → Part s t f.square (tree f) → e.number ≡ f.number → e.mark ≡ f.mark
-unfolding pairs
+one_number : (s : Square) (t : Tree) → Apart (numbers t) → (e f : Node) → Part s t e.square (tree e) → Part s t f.square (tree f) → e.number ≡ f.number → e.mark ≡ f.mark
 one_number s t h e f p q x =
-    one_pair (pairs t) (subst (λ (z : List ℕ). Apart z) (sym (firsts_pairs t)) h) (e.number, e.mark) (f.number, f.mark)
-    (pairs_part p (e.number, e.mark) (inl refl))
-    (pairs_part q (f.number, f.mark) (inl refl))
-    x
+    cc (find_part s t e.number e.square (tree e) p h refl, find_part s t e.number f.square (tree f) q h (ap Some (sym x)))
 
 abbrev names : List Node → List ℕ
 names [] = []
