@@ -1,5 +1,5 @@
 -- Elements of lists, lists with no element twice, and four lists in a row, one for each quadrant.
-use Rattle.std.proofs.Common.{◌≡◌, ℕ, suc, ◌≤◌, ◌⊎◌, List, [], ◌∷◌, ◌++◌, length, sym, refl, ap, ◌∙◌, subst, inl, inr, arith}
+use Rattle.std.proofs.Common.{◌≡◌, ℕ, suc, ◌≤◌, ◌⊎◌, List, [], ◌∷◌, ◌++◌, map, length, sym, refl, ap, ◌∙◌, subst, inl, inr, arith}
 use Rattle.treap.specs.Trees.{Quadrant, tl, tr, bl, br, Tree, pick, numbers, In, Apart}
 
 pub in? : {A : Type 0} → ((x y : A) → Dec (x ≡ y)) → (l : List A) (x : A) → In l x ⊎ (In l x → ⊥)
@@ -74,6 +74,29 @@ apart_joined (x ∷ l) r hl hr no_both = (
   λ p. elim (in_append l r x p) [ inl q ↦ hl.0 q | inr q ↦ no_both x (inl refl) q ],
   apart_joined l r hl.1 hr (λ z p. no_both z (inr p)),
 )
+
+-- each element stands so to all that come after it
+abbrev pub Pairs : {A : Type 0} → (A → A → Type 0) → List A → Type 0
+Pairs R [] = Unit {0}
+Pairs {A} R (x ∷ l) = ((z : A) → In l z → R x z) × Pairs R l
+
+module _ {A B : Type 0} (f : A → B) where
+  pub in_map : (l : List A) (x : A) → In l x → In (map f l) (f x)
+  in_map (y ∷ l) x (inl e) = inl (ap f e)
+  in_map (y ∷ l) x (inr h) = inr (in_map l x h)
+  in_map [] x h = absurd h
+
+  pub from_map : (l : List A) (y : B) → In (map f l) y → (x : A) × In l x × (y ≡ f x)
+  from_map [] y h = absurd h
+  from_map (x ∷ l) y (inl e) = (x, inl refl, e)
+  from_map (x ∷ l) y (inr h) = let r = from_map l y h in (r.0, inr r.1, r.2)
+
+  pub apart_map : (R : A → A → Type 0) (l : List A) → Pairs R l → ((x y : A) → In l x → In l y → R x y → f x ≡ f y → ⊥) → Apart (map f l)
+  apart_map R [] h ne = tt
+  apart_map R (x ∷ l) h ne = (
+    λ p. let r = from_map l (f x) p in ne x r.0 (inl refl) (inr r.1) (h.0 r.0 r.1) r.2,
+    apart_map R l h.1 (λ y z p q. ne y z (inr p) (inr q)),
+  )
 
 ruleset in_parts = (in_first, in_last)
 

@@ -39,7 +39,7 @@ decides_in_square s m = (
   λ w. grind (arith, nat_tests, w.not_above, w.not_below, w.not_left, w.not_right),
 )
 
-kept_in : (p : Spot → Bool) (l : List Spot) (x : Spot) → In (filter p l) x → In l x × (p x ≡ true)
+pub kept_in : (p : Spot → Bool) (l : List Spot) (x : Spot) → In (filter p l) x → In l x × (p x ≡ true)
 kept_in p [] x h = absurd h
 kept_in p (y ∷ l) x h = go (p y) refl (kept_in p l x) h
   where
@@ -52,7 +52,7 @@ kept_in p (y ∷ l) x h = go (p y) refl (kept_in p l x) h
     go true e rest (inr q) = (inr (rest q).0, (rest q).1)
     go false e rest q = (inr (rest q).0, (rest q).1)
 
-kept_has : (p : Spot → Bool) (l : List Spot) (x : Spot) → In l x → p x ≡ true → In (filter p l) x
+pub kept_has : (p : Spot → Bool) (l : List Spot) (x : Spot) → In l x → p x ≡ true → In (filter p l) x
 kept_has p [] x h e = h
 kept_has p (y ∷ l) x h e = go (p y) refl h (λ g. kept_has p l x g e)
   where
@@ -101,7 +101,7 @@ better_leads k L m x = go (outranks k x m) (decides_outranks k x m) (tri k L x m
     go false d (inl o) = absurd (false≢true (d.1 o))
     go false d (inr o) = (inl refl, o)
 
-best_leads : (k : Kind) → Laws k → (m : Spot) (l : List Spot) (x : Spot) → In (m ∷ l) x → Leads k (best k m l) x
+pub best_leads : (k : Kind) → Laws k → (m : Spot) (l : List Spot) (x : Spot) → In (m ∷ l) x → Leads k (best k m l) x
 best_leads k L m [] x (inl e) = inl e
 best_leads k L m [] x (inr h) = absurd h
 best_leads k L m (y ∷ l) x h = go h (best_leads k L n l)
@@ -114,7 +114,7 @@ best_leads k L m (y ∷ l) x h = go h (best_leads k L n l)
     go (inr (inl e)) rest = leads_trans k L (best k n l) n x (rest n (inl refl)) (subst (λ (z : Spot). Leads k n z) (sym e) (better_leads k L m y).1)
     go (inr (inr g)) rest = rest x (inr g)
 
-best_in : (k : Kind) (m : Spot) (l : List Spot) → In (m ∷ l) (best k m l)
+pub best_in : (k : Kind) (m : Spot) (l : List Spot) → In (m ∷ l) (best k m l)
 best_in k m [] = inl refl
 best_in k m (y ∷ l) = go (outranks k y m) (best_in k (cond (outranks k y m) y m) l)
   where
