@@ -15,8 +15,8 @@ pub mod Parts
 pub mod Counted
 pub mod Find
 pub mod Walks
-pub mod Runs
 pub mod Kids
+pub mod Runs
 pub mod Shuffles
 pub mod Held
 pub mod Layers

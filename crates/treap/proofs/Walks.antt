@@ -149,7 +149,7 @@ last_over_from_all k [] m h f = omega arith
 last_over_from_all k (x ∷ []) m h f = f x (inl refl)
 last_over_from_all k (x ∷ y ∷ l) m h f = last_over_from_all k (y ∷ l) m (omega arith) (λ z p. f z (inr p))
 
-pub spread_joined : (l r : List Node) → Spread l → Spread r → ((e f : Node) → In l e → In r f → Share e.square f.square → ⊥) → Spread (l ++ r)
+spread_joined : (l r : List Node) → Spread l → Spread r → ((e f : Node) → In l e → In r f → Share e.square f.square → ⊥) → Spread (l ++ r)
 spread_joined [] r hl hr f = hr
 spread_joined (x ∷ l) r hl hr f = (λ g p. cases g (in_append l r g p), spread_joined l r hl.1 hr (λ e g p. f e g (inr p)))
   where
