@@ -311,5 +311,5 @@ some_draw_lem k L s t h lone ap' w n pos =
       r.0,
       tally k w n r.0 s t,
       best_draws k L s t h ap' w n pos r.0 (best_of k _ (Seen t w) seen there n r.0 (best_from_top k _ n r.0 pos r.1))
-      (cells_apart k r.0 r.1.chain (λ x y p q. lone x y (seen x (r.1.listed x p)).shown (seen y (r.1.listed y q)).shown)),
+          (cells_apart k r.0 r.1.chain (λ x y p q. lone x y (seen x (r.1.listed x p)).shown (seen y (r.1.listed y q)).shown)),
     )
