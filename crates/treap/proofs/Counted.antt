@@ -213,7 +213,7 @@ best_draws k L s t h ap' w n pos l b c =
       of_tree = gathered_numbers k w n l s t;
       once = gather_apart k w n l s t ap';
       enough =
-          wanted_is_enough k L s t h w n l pos b.most (gather k w n l s t)
+          wanted_is_enough k L s t w n l pos b.most (gather k w n l s t)
           (λ r u p v. numbered_part k w n l u p (wanted_gathered k w n l r u v));
       size = length_gather k w n l s t;
       least = λ S j.

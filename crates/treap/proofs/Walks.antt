@@ -269,7 +269,7 @@ search_ends k L s t h lone ap' w n pos done wait l st end =
       of_tree = λ i p. let r = from_map name done i p in
           subst (λ (z : ℕ). In (numbers t) z) (sym r.2) (part_numbers (st.0.done_parts r.0 r.1).0 r.0.number (inl refl));
       once = once;
-      enough = wanted_is_enough k L s t h w n l pos st.1.most (map name done) needs;
+      enough = wanted_is_enough k L s t w n l pos st.1.most (map name done) needs;
       size = length-map done name;
       least = λ S j.
           let le = apart_shorter (map name done) S once (λ i p. has S j i (from_map name done i p)) in
