@@ -1,9 +1,9 @@
 -- The boxes right below a box, gathered quadrant by quadrant: what a loop over the quadrants cites.
-use Rattle.std.proofs.Common.{◌≡◌, ℕ, ◌+◌, ◌<◌, ◌⊎◌, List, [], ◌∷◌, sym, refl, ap, ◌∙◌, subst, inl, inr, arith}
+use Rattle.std.proofs.Common.{◌≡◌, ◌+◌, ◌<◌, ◌⊎◌, List, [], ◌∷◌, sym, refl, ap, ◌∙◌, subst, inl, inr, arith}
 use native.Mathlib.Decide.{dec_lt}
-use Rattle.treap.specs.Trees.{Quadrant, tl, tr, bl, br, index, Square, Within, quadrant, none, In}
+use Rattle.treap.specs.Trees.{Quadrant, tl, tr, bl, br, index, Square, Within, quadrant, none}
 use Rattle.treap.specs.Draws.{Window, Touches}
-use Rattle.treap.specs.Searches.{Node, tree, child, Share, KidsBelow}
+use Rattle.treap.specs.Searches.{Node, tree, child, KidsBelow}
 use Rattle.treap.proofs.Shown.{one_quadrant}
 use Rattle.treap.proofs.Find.{box_none}
 use Rattle.treap.proofs.Walks.{Kids, node_eq}

@@ -1,34 +1,32 @@
 -- A floor over a lawful meaning is lawful, and so is a lawful meaning moved; and what they answer.
-use Rattle.std.proofs.Common.{◌≡◌, ℕ, zero, suc, ◌+◌, ◌^◌, ◌≤◌, Bool, true, false, cond, ◌||◌, eqb, ltb, ◌⊎◌, List, [], ◌∷◌, None, sym, refl, ap, ◌∙◌, subst, inl, inr, arith, ltb-false}
+use Rattle.std.proofs.Common.{◌≡◌, ℕ, zero, suc, ◌+◌, ◌^◌, ◌≤◌, Bool, true, false, cond, eqb, List, None, sym, refl, ap, ◌∙◌, subst, inl, inr, arith}
 use Rattle.std.proofs.lemmas.Bool.{false≢true}
+use Rattle.std.proofs.lemmas.Bool.Decides.{nat_tests}
 use Rattle.grade.specs.Kind.{Kind, Laws}
-use Rattle.treap.specs.Refusals.{first}
 use Rattle.treap.specs.Spots.{Spot}
 use Rattle.treap.specs.Trees.{Quadrant, tl, tr, bl, br, Square, quadrant, Tree, none, box, pick, number, or, sub, find, count, numbers, Shows, Ordered, Apart, Meaning, Lawful}
 use Rattle.treap.specs.Layers.{kept, floor, moved_spot, moved, floored, shifted, shift_refusal}
 use Rattle.treap.proofs.Lists.{each_apart, by_quadrant, quarter}
-use Rattle.treap.proofs.Shown.{split, root_over}
 use Rattle.treap.proofs.Find.{find_shown, chosen, chosen_is, find_once}
-use Rattle.treap.proofs.Layers.{level_from_outranks, floor_shows_lem, shift_shows_lem}
+use Rattle.treap.proofs.Layers.{by_kept, floor_high, floor_shows_lem, shift_shows_lem}
+
+-- what is done to each quadrant is done to one
+sub_each : (f : Tree → Tree) → f none ≡ none → (q i : ℕ) (m n : Spot) (a b c d : Tree) → sub q (box i n (f a) (f b) (f c) (f d)) ≡ f (sub q (box i m a b c d))
+sub_each f e zero i m n a b c d = refl
+sub_each f e (suc zero) i m n a b c d = refl
+sub_each f e (suc (suc zero)) i m n a b c d = refl
+sub_each f e (suc (suc (suc zero))) i m n a b c d = refl
+sub_each f e (suc (suc (suc (suc q)))) i m n a b c d = sym e
 
 module _ (k : Kind) (L : Laws k) (g : ℕ) where
   -- where nothing shown reaches g, the floor leaves nothing
   none_left : (u : Tree) → ((x : Spot) → Shows u x → k.above x.grade g ≡ true → ⊥) → floor k g u ≡ none
   none_left none h = refl
-  none_left (box i m a b c d) h = go (k.above m.grade g) refl
-    where
-      go : (v : Bool) → k.above m.grade g ≡ v → kept v (box i m (floor k g a) (floor k g b) (floor k g c) (floor k g d)) ≡ none
-      go true e = absurd (h m (inl refl) e)
-      go false e = refl
+  none_left (box i m a b c d) h = by_kept (λ v. v ≡ none) (k.above m.grade g) _ refl (λ e. absurd (h m (inl refl) e))
 
   -- where the root falls short, all that is shown does
   under_short : (s : Square) (i : ℕ) (m : Spot) (a b c d : Tree) → Ordered k s (box i m a b c d) → k.above m.grade g ≡ false → (x : Spot) → Shows (box i m a b c d) x → k.above x.grade g ≡ true → ⊥
-  under_short s i m a b c d h e x v p = false≢true (sym e ∙ high (split a b c d m x i v))
-    where
-      high : (x ≡ m) ⊎ ((q : Quadrant) × Shows (pick a b c d q) x) → k.above m.grade g ≡ true
-      high (inl y) = subst (λ (z : Spot). k.above z.grade g ≡ true) y p
-      high (inr y) =
-          L.trans m.grade x.grade g (level_from_outranks k L m x (root_over k L s i m a b c d h y.0 x y.1)) p
+  under_short s i m a b c d h e x v p = false≢true (sym e ∙ floor_high k L g s i m a b c d h x v p)
 
   abbrev Same : ℕ → Tree → Type 0
   Same n t = find n (floor k g t) ≡ floor k g (find n t)
@@ -68,33 +66,19 @@ module _ (k : Kind) (L : Laws k) (g : ℕ) where
   shows_sub (suc (suc (suc zero))) (box i m a b c d) x h = inr (inr (inr (inr h)))
   shows_sub (suc (suc (suc (suc q)))) (box i m a b c d) x h = absurd h
 
-  sub_kept : (q i : ℕ) (m : Spot) (a b c d : Tree) → sub q (box i m (floor k g a) (floor k g b) (floor k g c) (floor k g d)) ≡ floor k g (sub q (box i m a b c d))
-  sub_kept zero i m a b c d = refl
-  sub_kept (suc zero) i m a b c d = refl
-  sub_kept (suc (suc zero)) i m a b c d = refl
-  sub_kept (suc (suc (suc zero))) i m a b c d = refl
-  sub_kept (suc (suc (suc (suc q)))) i m a b c d = refl
-
   pub sub_floor : (q : ℕ) (s : Square) (t : Tree) → Ordered k s t → sub q (floor k g t) ≡ floor k g (sub q t)
   sub_floor q s none h = refl
   sub_floor q s (box i m a b c d) h = go (k.above m.grade g) refl
     where
       go : (v : Bool) → k.above m.grade g ≡ v → sub q (kept v (box i m (floor k g a) (floor k g b) (floor k g c) (floor k g d))) ≡ floor k g (sub q (box i m a b c d))
-      go true e = sub_kept q i m a b c d
+      go true e = sub_each (floor k g) refl q i m m a b c d
       go false e = sym (none_left (sub q (box i m a b c d)) (λ x v. under_short s i m a b c d h e x (shows_sub q (box i m a b c d) x v)))
-
-  count_kept : (v : Bool) (t : Tree) (n : ℕ) → count t ≤ n → count (kept v t) ≤ n
-  count_kept true t n h = h
-  count_kept false t n h = omega arith
 
   count_floor : (t : Tree) → count (floor k g t) ≤ count t
   count_floor none = omega arith
   count_floor (box i m a b c d) =
-      let ha = count_floor a in
-      let hb = count_floor b in
-      let hc = count_floor c in
-      let hd = count_floor d in
-      count_kept (k.above m.grade g) (box i m (floor k g a) (floor k g b) (floor k g c) (floor k g d)) _ (omega arith)
+      by_kept (λ u. count u ≤ count (box i m a b c d)) (k.above m.grade g) _ (omega arith)
+      (λ _. omega (arith, count_floor a, count_floor b, count_floor c, count_floor d))
 
   pub floored_lawful : (m : Meaning) → Lawful k m → Lawful k (floored k g m)
   floored_lawful m h =
@@ -112,18 +96,7 @@ module _ (k : Kind) (L : Laws k) (g : ℕ) where
 pub shift_fits : (r c : ℕ) (m : Meaning)
     → shift_refusal r c m ≡ None
     → ((m.square.top + r) + 2 ^ m.square.level ≤ 65536) × ((m.square.left + c) + 2 ^ m.square.level ≤ 65536)
-shift_fits r c m h = go (ltb 65536 rows) (ltb 65536 cols) refl refl h
-  where
-    rows : ℕ
-    rows = (m.square.top + r) + 2 ^ m.square.level
-
-    cols : ℕ
-    cols = (m.square.left + c) + 2 ^ m.square.level
-
-    go : (u v : Bool) → ltb 65536 rows ≡ u → ltb 65536 cols ≡ v → first (record { number = 18; fits = u || v } ∷ []) ≡ None → (rows ≤ 65536) × (cols ≤ 65536)
-    go true v d e f = let z : ◌≡◌ {A = ℕ} 0 1 = cc in absurd (omega arith)
-    go false true d e f = let z : ◌≡◌ {A = ℕ} 0 1 = cc in absurd (omega arith)
-    go false false d e f = (omega (arith, ltb-false 65536 rows d), omega (arith, ltb-false 65536 cols e))
+shift_fits r c m h = (grind (arith, nat_tests), grind (arith, nat_tests))
 
 module _ (r c : ℕ) where
   or_moved : (t u : Tree) → or (moved r c t) (moved r c u) ≡ moved r c (or t u)
@@ -143,11 +116,7 @@ module _ (r c : ℕ) where
 
   pub sub_moved : (q : ℕ) (t : Tree) → sub q (moved r c t) ≡ moved r c (sub q t)
   sub_moved q none = refl
-  sub_moved zero (box m s x y z w) = refl
-  sub_moved (suc zero) (box m s x y z w) = refl
-  sub_moved (suc (suc zero)) (box m s x y z w) = refl
-  sub_moved (suc (suc (suc zero))) (box m s x y z w) = refl
-  sub_moved (suc (suc (suc (suc q)))) (box m s x y z w) = refl
+  sub_moved q (box m s x y z w) = sub_each (moved r c) refl q m s (moved_spot r c s) x y z w
 
   pub number_moved : (t : Tree) → number (moved r c t) ≡ number t
   number_moved none = refl
