@@ -50,67 +50,17 @@ alone_lone t alone x y hx hy er ec = go (ℕ_discrete x.grade y.grade)
         )
         )
 
-either_some : (o p : Option ℕ) (g : ℕ) → either o p ≡ Some g → (o ≡ Some g) ⊎ (p ≡ Some g)
-either_some None p g e = inr e
-either_some (Some x) p g e = inl e
-
-either_none : (o p : Option ℕ) → either o p ≡ None → (o ≡ None) × (p ≡ None)
-either_none None p e = (refl, e)
-either_none (Some x) p e = let z : ◌≡◌ {A = ℕ} 0 1 = cc in absurd (omega arith)
-
 -- the tree shows the mark whose grade it has in a cell
 pub graded_shown : (row col : ℕ) (t : Tree) (g : ℕ) → grade_in row col t ≡ Some g → Shows t (record { row = row; col = col; grade = g })
-graded_shown row col none g e = let z : ◌≡◌ {A = ℕ} 0 1 = cc in absurd (omega arith)
+graded_shown row col none g e = cc
 graded_shown row col (box i m a b c d) g e =
-    go (at_cell row col m) refl e (graded_shown row col a g) (graded_shown row col b g) (graded_shown row col c g) (graded_shown row col d g)
-  where
-    x : Spot
-    x = record { row = row; col = col; grade = g }
-
-    rest : Option ℕ
-    rest = either (grade_in row col a) (either (grade_in row col b) (either (grade_in row col c) (grade_in row col d)))
-
-    go : (v : Bool)
-        → at_cell row col m ≡ v
-        → cond v (Some m.grade) rest ≡ Some g
-        → (grade_in row col a ≡ Some g → Shows a x)
-        → (grade_in row col b ≡ Some g → Shows b x)
-        → (grade_in row col c ≡ Some g → Shows c x)
-        → (grade_in row col d ≡ Some g → Shows d x)
-        → Shows (box i m a b c d) x
-    go true h e fa fb fc fd = inl (spot_eq x m (grind (arith, nat_tests)) (grind (arith, nat_tests)) (cc))
-    go false h e fa fb fc fd =
-        elim (either_some (grade_in row col a) (either (grade_in row col b) (either (grade_in row col c) (grade_in row col d))) g e) [
-          | inl p ↦ inr (inl (fa p))
-          | inr p ↦ elim (either_some (grade_in row col b) (either (grade_in row col c) (grade_in row col d)) g p) [
-            | inl q ↦ inr (inr (inl (fb q)))
-            | inr q ↦ elim (either_some (grade_in row col c) (grade_in row col d) g q) [
-              | inl r ↦ inr (inr (inr (inl (fc r))))
-              | inr r ↦ inr (inr (inr (inr (fd r))))
-            ]
-          ]
-        ]
+    grind (arith, nat_tests, graded_shown row col a g, graded_shown row col b g, graded_shown row col c g, graded_shown row col d g)
 
 -- a cell without a grade has no mark
 pub ungraded_free : (row col : ℕ) (t : Tree) → grade_in row col t ≡ None → in_cell row col t ≡ 0
 ungraded_free row col none e = refl
 ungraded_free row col (box i m a b c d) e =
-    go (at_cell row col m) refl e (ungraded_free row col a) (ungraded_free row col b) (ungraded_free row col c) (ungraded_free row col d)
-  where
-    go : (v : Bool)
-        → at_cell row col m ≡ v
-        → cond v (Some m.grade) (either (grade_in row col a) (either (grade_in row col b) (either (grade_in row col c) (grade_in row col d)))) ≡ None
-        → (grade_in row col a ≡ None → in_cell row col a ≡ 0)
-        → (grade_in row col b ≡ None → in_cell row col b ≡ 0)
-        → (grade_in row col c ≡ None → in_cell row col c ≡ 0)
-        → (grade_in row col d ≡ None → in_cell row col d ≡ 0)
-        → in_cell row col (box i m a b c d) ≡ 0
-    go true h e fa fb fc fd = let z : ◌≡◌ {A = ℕ} 0 1 = cc in absurd (omega arith)
-    go false h e fa fb fc fd =
-        let p = either_none (grade_in row col a) (either (grade_in row col b) (either (grade_in row col c) (grade_in row col d))) e in
-        let q = either_none (grade_in row col b) (either (grade_in row col c) (grade_in row col d)) p.1 in
-        let r = either_none (grade_in row col c) (grade_in row col d) q.1 in
-        omega (arith, ap one_if h, fa p.0, fb q.0, fc r.0, fd r.1)
+    grind (arith, ungraded_free row col a, ungraded_free row col b, ungraded_free row col c, ungraded_free row col d)
 
 at_own_cell : (x : Spot) → one_if (at_cell x.row x.col x) ≡ 1
 at_own_cell x = grind (arith, nat_tests, one_if_tells)
