@@ -5,7 +5,7 @@ use Rattle.std.proofs.lemmas.Bool.Decides.{nat_tests}
 use Rattle.grade.specs.Kind.{Kind}
 use Rattle.treap.specs.Spots.{Spot}
 use Rattle.treap.specs.Trees.{Quadrant, index, tl, tr, bl, br, Square, Within, quadrant, Tree, none, box, pick, Shows, Ordered, Lone, count}
-use Rattle.treap.specs.Sums.{one_if, mark_sum, at_cell, in_cell, Alone, either, grade_in}
+use Rattle.treap.specs.Sums.{one_if, mark_sum, at_cell, in_cell, Alone, grade_in}
 use Rattle.treap.proofs.Ranks.{spot_eq}
 use Rattle.treap.proofs.Shown.{shown_holds, lawful_quadrant, one_quadrant}
 use Rattle.treap.proofs.Counts.{at_cell_is, mark_sum_le, same, has, has_self, shows_has, has_shows}
@@ -62,11 +62,8 @@ ungraded_free row col none e = refl
 ungraded_free row col (box i m a b c d) e =
     grind (arith, ungraded_free row col a, ungraded_free row col b, ungraded_free row col c, ungraded_free row col d)
 
-at_own_cell : (x : Spot) → one_if (at_cell x.row x.col x) ≡ 1
-at_own_cell x = grind (arith, nat_tests, one_if_tells)
-
 shown_in_cell : (t : Tree) (x : Spot) → Shows t x → 1 ≤ in_cell x.row x.col t
-shown_in_cell t x h = omega (arith, at_own_cell x, shown_le (λ m. one_if (at_cell x.row x.col m)) t x h)
+shown_in_cell t x h = let own : one_if (at_cell x.row x.col x) ≡ 1 = grind (arith, nat_tests) in omega (arith, shown_le (λ m. one_if (at_cell x.row x.col m)) t x h)
 
 -- a cell has the grade of the mark that the tree shows there
 pub shown_graded : (t : Tree) → Alone t → (x : Spot) → Shows t x → grade_in x.row x.col t ≡ Some x.grade

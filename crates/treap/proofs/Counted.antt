@@ -1,5 +1,5 @@
 -- How many boxes a draw has to open: a count that the numbers of the boxes do not enter; so a draw has one answer, and has one.
-use Rattle.std.proofs.Common.{◌≡◌, ℕ, ◌+◌, ◌^◌, ◌<◌, max, Bool, true, false, ◌&&◌, ◌||◌, ltb, leb, ◌⊎◌, List, [], ◌∷◌, ◌++◌, map, filter, length, Decides, sym, refl, ap, subst, inl, inr, arith, length-append}
+use Rattle.std.proofs.Common.{◌≡◌, ℕ, ◌+◌, ◌^◌, ◌<◌, max, Bool, true, false, ◌&&◌, ◌||◌, ltb, leb, ◌⊎◌, List, [], ◌∷◌, ◌++◌, map, filter, length, Decides, refl, ap, inl, inr, arith, length-append}
 use Rattle.std.proofs.lemmas.Bool.Decides.{nat_tests, Decides-and, Decides-or}
 use Rattle.std.proofs.lemmas.Bool.{false≢true}
 use Rattle.grade.specs.Kind.{Kind, Laws}
@@ -35,34 +35,11 @@ decides_touches s w = (
       record {
         row = max s.top w.top;
         col = max s.left w.left;
-        within =
-            record {
-              not_above = omega arith;
-              not_below = grind (arith, nat_tests);
-              not_left = omega arith;
-              not_right = grind (arith, nat_tests);
-            };
-        seen =
-            record {
-              not_above = omega arith;
-              not_below = grind (arith, nat_tests);
-              not_left = omega arith;
-              not_right = grind (arith, nat_tests);
-            };
+        within = grind (arith, nat_tests);
+        seen = grind (arith, nat_tests);
       },
   λ t. let r = t.within in let v = t.seen in
-      grind (
-        arith,
-        nat_tests,
-        r.not_above,
-        r.not_below,
-        r.not_left,
-        r.not_right,
-        v.not_above,
-        v.not_below,
-        v.not_left,
-        v.not_right,
-      ),
+      grind (arith, nat_tests, r.not_above, r.not_below, r.not_left, r.not_right, v.not_above, v.not_below, v.not_left, v.not_right),
 )
 
 decides_reaches : (k : Kind) (l : List Spot) (m : Spot) → Decides (reaches k l m) (Reaches k l m)
@@ -72,28 +49,25 @@ decides_reaches k (x ∷ []) m =
 decides_reaches k (x ∷ y ∷ l) m = decides_reaches k (y ∷ l) m
 
 pub touches? : (s : Square) (w : Window) → Dec (Touches s w)
-touches? s w = go (touches s w) (decides_touches s w)
-  where
-    go : (v : Bool) → Decides v (Touches s w) → Dec (Touches s w)
-    go true d = yes (d.0 refl)
-    go false d = no (λ h. false≢true (d.1 h))
+touches? s w =
+    let d = decides_touches s w in
+    elim (touches s w) as (λ v. Decides v (Touches s w) → Dec (Touches s w)) [
+      | true ↦ λ d. yes (d.0 refl)
+      | false ↦ λ d. no (λ h. false≢true (d.1 h))
+    ] d
 
 abbrev keep : Bool → ℕ → List ℕ → List ℕ
 keep true i l = i ∷ l
 keep false i l = l
 
 in_keep : (v : Bool) (i : ℕ) (r : List ℕ) (x : ℕ) → In r x → In (keep v i r) x
-in_keep true i r x h = inr h
-in_keep false i r x h = h
+in_keep v i r x h = grind arith
 
 kept : (v : Bool) → v ≡ true → (i : ℕ) (z : List ℕ) → In (keep v i z) i
-kept true h i z = inl refl
-kept false h i z = absurd (false≢true h)
+kept v h i z = grind arith
 
 keep_cases : (v : Bool) (S : List ℕ) (i x : ℕ) → (v ≡ true → In S i) → (z : List ℕ) → (In z x → In S x) → In (keep v i z) x → In S x
-keep_cases true S i x t z g (inl e) = subst (λ (j : ℕ). In S j) (sym e) (t refl)
-keep_cases true S i x t z g (inr h) = g h
-keep_cases false S i x t z g h = g h
+keep_cases v S i x t z g h = grind arith
 
 length_keep : (v : Bool) (i : ℕ) (r : List ℕ) (c : ℕ) → length r ≡ c → length (keep v i r) ≡ one_if v + c
 length_keep v i r c e = grind arith
@@ -129,11 +103,7 @@ module _ (k : Kind) (w : Window) (n : ℕ) (l : List Spot) where
   tally_unnumbered : (s : Square) (t : Tree) → tally s (unnumbered t) ≡ tally s t
   tally_unnumbered s none = refl
   tally_unnumbered s (box i m a b c d) =
-      let ea = tally_unnumbered (quadrant tl s) a in
-      let eb = tally_unnumbered (quadrant tr s) b in
-      let ec = tally_unnumbered (quadrant bl s) c in
-      let ed = tally_unnumbered (quadrant br s) d in
-      λ z. one_if (wants s m) + (ea z + (eb z + (ec z + ed z)))
+      omega (arith, tally_unnumbered (quadrant tl s) a, tally_unnumbered (quadrant tr s) b, tally_unnumbered (quadrant bl s) c, tally_unnumbered (quadrant br s) d)
 
   -- what is gathered in a quadrant
   abbrev part : Square → Tree → Tree → Tree → Tree → Quadrant → List ℕ
@@ -143,11 +113,9 @@ module _ (k : Kind) (w : Window) (n : ℕ) (l : List Spot) where
   unfolding gather
   length_gather s none = refl
   length_gather s (box i m a b c d) =
-      let ea = length_gather (quadrant tl s) a in
-      let eb = length_gather (quadrant tr s) b in
-      let ec = length_gather (quadrant bl s) c in
-      let ed = length_gather (quadrant br s) d in
-      length_keep (wants s m) i _ _ (simp length-append (omega arith))
+      length_keep (wants s m) i _ _
+      (simp length-append
+      (omega (arith, length_gather (quadrant tl s) a, length_gather (quadrant tr s) b, length_gather (quadrant bl s) c, length_gather (quadrant br s) d)))
 
   in_gather_part : {s : Square} {t : Tree} {r : Square} {u : Tree} → Part s t r u → (x : ℕ) → In (gather r u) x → In (gather s t) x
   unfolding gather
@@ -290,16 +258,7 @@ abbrev sees : Window → Spot → Bool
 sees w m = (leb w.top m.row && leb m.row w.bottom) && (leb w.left m.col && leb m.col w.right)
 
 decides_sees : (w : Window) (m : Spot) → Decides (sees w m) (Sees w m.row m.col)
-decides_sees w m = (
-  λ e.
-      record {
-        not_above = grind (arith, nat_tests);
-        not_below = grind (arith, nat_tests);
-        not_left = grind (arith, nat_tests);
-        not_right = grind (arith, nat_tests);
-      },
-  λ v. grind (arith, nat_tests, v.not_above, v.not_below, v.not_left, v.not_right),
-)
+decides_sees w m = (λ e. grind (arith, nat_tests), λ v. grind (arith, nat_tests, v.not_above, v.not_below, v.not_left, v.not_right))
 
 pub some_draw_lem : SomeDraw
 some_draw_lem k L s t h lone ap' w n pos =

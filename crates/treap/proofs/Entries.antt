@@ -1,5 +1,5 @@
 -- A lawful tree and its ledger tell each other.
-use Rattle.std.proofs.Common.{◌≡◌, ℕ, zero, suc, ◌^◌, ◌<◌, List, [], ◌∷◌, Some, None, Option, sym, refl, ap, ◌∙◌, subst, inl, inr, arith}
+use Rattle.std.proofs.Common.{◌≡◌, ℕ, zero, suc, ◌^◌, ◌<◌, List, [], ◌∷◌, Some, Option, sym, refl, ap, ◌∙◌, subst, inl, inr, arith}
 use native.Mathlib.Decide.{dec_lt}
 use Rattle.grade.specs.Kind.{Kind}
 use Rattle.treap.specs.Spots.{Spot}
@@ -9,7 +9,6 @@ use Rattle.treap.specs.Sums.{Alone, grade_in, ledger_of}
 use Rattle.treap.specs.Plants.{best, share, plant_at, plant, Planted}
 use Rattle.treap.specs.Entries.{plan_square, LedgerTree, SameMarksSameTree}
 use Rattle.treap.proofs.Lists.{in_append, in_first, in_last}
-use Rattle.treap.proofs.Ranks.{spot_eq}
 use Rattle.treap.proofs.Shown.{shown_holds, one_tree_lem}
 use Rattle.treap.proofs.Plants.{some_tree_lem}
 use Rattle.treap.proofs.Cells.{alone_lone, graded_shown, shown_graded}
@@ -22,8 +21,7 @@ in_entry : (row col : ℕ) (o : Option ℕ) (x : Spot)
 in_entry row col o x h = grind arith
 
 entry_has : (x : Spot) (o : Option ℕ) → o ≡ Some x.grade → In (entry x.row x.col o) x
-entry_has x None e = cc
-entry_has x (Some g) e = inl (cc)
+entry_has x o e = grind arith
 
 module _ (grade : ℕ → ℕ → Option ℕ) where
   in_row : (row n : ℕ) (x : Spot) → In (row_entries grade row n) x → (x.row ≡ row) × (grade x.row x.col ≡ Some x.grade)

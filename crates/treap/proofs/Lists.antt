@@ -13,8 +13,7 @@ in? {A} eq (y ∷ l) x = go (eq x y) (in? eq l x)
 
 pub in_first : {A : Type 0} (l r : List A) (x : A) → In l x → In (l ++ r) x
 in_first [] r x h = absurd h
-in_first (y ∷ l) r x (inl e) = inl e
-in_first (y ∷ l) r x (inr h) = inr (in_first l r x h)
+in_first (y ∷ l) r x h = grind (arith, in_first l r x)
 
 pub in_last : {A : Type 0} (l r : List A) (x : A) → In r x → In (l ++ r) x
 in_last [] r x h = h
@@ -22,8 +21,7 @@ in_last (y ∷ l) r x h = inr (in_last l r x h)
 
 pub in_append : {A : Type 0} (l r : List A) (x : A) → In (l ++ r) x → In l x ⊎ In r x
 in_append [] r x h = inr h
-in_append (y ∷ l) r x (inl e) = inl (inl e)
-in_append (y ∷ l) r x (inr h) = elim (in_append l r x h) [ inl p ↦ inl (inr p) | inr p ↦ inr p ]
+in_append (y ∷ l) r x h = grind (arith, in_append l r x)
 
 -- the list without one element
 without : {A : Type 0} (l : List A) (x : A) → In l x → List A

@@ -1,12 +1,10 @@
 -- A pile shows what one floor under one shift shows: two floors are the stricter, two shifts add up, and a floor looks at
 -- grades only.
-use Rattle.std.proofs.Common.{◌≡◌, ℕ, ◌+◌, ◌^◌, ◌≤◌, Bool, true, false, cond, ◌&&◌, ◌||◌, ltb, ◌⊎◌, List, [], ◌∷◌, Some, None, Option, sym, refl, ap, ◌∙◌, inl, inr, arith}
+use Rattle.std.proofs.Common.{◌≡◌, ℕ, ◌+◌, ◌≤◌, Bool, true, false, cond, ◌&&◌, List, [], ◌∷◌, Some, None, Option, sym, refl, ap, ◌∙◌, arith}
 use Rattle.std.proofs.lemmas.Bool.Decides.{nat_tests}
-use Rattle.std.proofs.lemmas.Bool.{false≢true}
 use Rattle.grade.specs.Kind.{Kind, Laws}
-use Rattle.treap.specs.Spots.{Spot}
 use Rattle.treap.specs.Trees.{Square, Tree, none, box, Meaning, Lawful}
-use Rattle.treap.specs.Layers.{kept, floor, floored, moved_spot, moved_square, moved, shifted, past_edge, shift_refusal}
+use Rattle.treap.specs.Layers.{floor, floored, moved_square, moved, shifted, past_edge, shift_refusal}
 use Rattle.treap.specs.Piles.{
   Layer,
   floor_at,
