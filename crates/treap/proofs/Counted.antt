@@ -50,11 +50,10 @@ decides_reaches k (x ∷ y ∷ l) m = decides_reaches k (y ∷ l) m
 
 pub touches? : (s : Square) (w : Window) → Dec (Touches s w)
 touches? s w =
-    let d = decides_touches s w in
     elim (touches s w) as (λ v. Decides v (Touches s w) → Dec (Touches s w)) [
       | true ↦ λ d. yes (d.0 refl)
       | false ↦ λ d. no (λ h. false≢true (d.1 h))
-    ] d
+    ] (decides_touches s w)
 
 abbrev keep : Bool → ℕ → List ℕ → List ℕ
 keep true i l = i ∷ l

@@ -4,7 +4,7 @@ use Rattle.std.proofs.lemmas.Bool.{false≢true}
 use Rattle.std.proofs.lemmas.Bool.Decides.{nat_tests}
 use Rattle.grade.specs.Kind.{Kind, Laws}
 use Rattle.treap.specs.Spots.{Spot}
-use Rattle.treap.specs.Trees.{Quadrant, tl, tr, bl, br, Square, quadrant, Tree, none, box, pick, number, or, sub, find, count, numbers, Shows, Ordered, Apart, Meaning, Lawful}
+use Rattle.treap.specs.Trees.{Quadrant, tl, tr, bl, br, Square, quadrant, Tree, none, box, pick, number, sub, find, count, numbers, Shows, Ordered, Apart, Meaning, Lawful}
 use Rattle.treap.specs.Layers.{kept, floor, moved_spot, moved, floored, shifted, shift_refusal}
 use Rattle.treap.proofs.Lists.{each_apart, by_quadrant, quarter}
 use Rattle.treap.proofs.Find.{find_shown, chosen, chosen_is, find_once}
@@ -99,20 +99,9 @@ pub shift_fits : (r c : ℕ) (m : Meaning)
 shift_fits r c m h = (grind (arith, nat_tests), grind (arith, nat_tests))
 
 module _ (r c : ℕ) where
-  or_moved : (t u : Tree) → or (moved r c t) (moved r c u) ≡ moved r c (or t u)
-  or_moved none u = refl
-  or_moved (box n s x y z w) u = refl
-
   pub find_moved : (n : ℕ) (t : Tree) → find n (moved r c t) ≡ moved r c (find n t)
   find_moved n none = refl
-  find_moved n (box m s x y z w) = go (eqb n m) refl (find_moved n x) (find_moved n y) (find_moved n z) (find_moved n w)
-    where
-      Here : Tree → Type 0
-      Here t = find n (moved r c t) ≡ moved r c (find n t)
-
-      go : (v : Bool) → eqb n m ≡ v → Here x → Here y → Here z → Here w → Here (box m s x y z w)
-      go true f i j k l = rw f
-      go false f i j k l = rw (f, i, j, k, l) (simp or_moved)
+  find_moved n (box m s x y z w) = grind (arith, find_moved n x, find_moved n y, find_moved n z, find_moved n w)
 
   pub sub_moved : (q : ℕ) (t : Tree) → sub q (moved r c t) ≡ moved r c (sub q t)
   sub_moved q none = refl
@@ -138,10 +127,6 @@ module _ (r c : ℕ) where
         lone = λ x y p q er ec.
             let a = v.2 x p in
             let b = v.2 y q in
-            let xr = ap (λ (z : Spot). z.row) a.2 in
-            let yr = ap (λ (z : Spot). z.row) b.2 in
-            let xc = ap (λ (z : Spot). z.col) a.2 in
-            let yc = ap (λ (z : Spot). z.col) b.2 in
-            a.2 ∙ ap (moved_spot r c) (h.lone a.0 b.0 a.1 b.1 (omega arith) (omega arith)) ∙ sym b.2;
+            a.2 ∙ ap (moved_spot r c) (h.lone a.0 b.0 a.1 b.1 (grind (arith, a.2, b.2)) (grind (arith, a.2, b.2))) ∙ sym b.2;
         apart = subst (λ (l : List ℕ). Apart l) (sym v.3) h.apart;
       }

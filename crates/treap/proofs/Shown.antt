@@ -8,10 +8,8 @@ use Rattle.treap.proofs.Ranks.{irrefl_eq, trans, asym}
 
 -- what a quadrant shows its box shows
 pub below : (a b c d : Tree) (i : ℕ) (m x : Spot) (q : Quadrant) → Shows (pick a b c d q) x → Shows (box i m a b c d) x
-below a b c d i m x tl h = inr (inl h)
-below a b c d i m x tr h = inr (inr (inl h))
-below a b c d i m x bl h = inr (inr (inr (inl h)))
-below a b c d i m x br h = inr (inr (inr (inr h)))
+below a b c d i m x tl h = search (inl, inr)
+below a b c d i m x q h = search (inl, inr)
 
 pub split : (a b c d : Tree) (m x : Spot) (i : ℕ) → Shows (box i m a b c d) x → (x ≡ m) ⊎ ((q : Quadrant) × Shows (pick a b c d q) x)
 split a b c d m x i (inl e) = inl e
@@ -21,16 +19,10 @@ split a b c d m x i (inr (inr (inr (inl h)))) = inr (bl, h)
 split a b c d m x i (inr (inr (inr (inr h)))) = inr (br, h)
 
 pub hangs : (k : Kind) (s : Square) (i : ℕ) (m : Spot) (a b c d : Tree) → Ordered k s (box i m a b c d) → (q : Quadrant) → Hangs k s m (pick a b c d q)
-hangs k s i m a b c d h tl = h.1.0
-hangs k s i m a b c d h tr = h.1.1
-hangs k s i m a b c d h bl = h.1.2
-hangs k s i m a b c d h br = h.1.3
+hangs k s i m a b c d h = by_quadrant _ h.1.0 h.1.1 h.1.2 h.1.3
 
 pub lawful_quadrant : (k : Kind) (s : Square) (i : ℕ) (m : Spot) (a b c d : Tree) → Ordered k s (box i m a b c d) → (q : Quadrant) → Ordered k (quadrant q s) (pick a b c d q)
-lawful_quadrant k s i m a b c d h tl = h.2.0
-lawful_quadrant k s i m a b c d h tr = h.2.1
-lawful_quadrant k s i m a b c d h bl = h.2.2
-lawful_quadrant k s i m a b c d h br = h.2.3
+lawful_quadrant k s i m a b c d h = by_quadrant _ h.2.0 h.2.1 h.2.2 h.2.3
 
 pub halves : (h : ℕ) → 0 < h → 2 ^ h ≡ 2 ^ pred h + 2 ^ pred h
 halves zero h = omega arith

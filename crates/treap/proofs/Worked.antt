@@ -1,5 +1,5 @@
 -- The draws from the trial plan: its tree with numbers is lawful, the lists have the best marks, the wanted boxes are counted.
-use Rattle.std.proofs.Common.{◌≡◌, ℕ, ◌<◌, true, ◌⊎◌, List, [], ◌∷◌, map, length, sym, refl, ap, subst, inl, inr, arith, lit≤}
+use Rattle.std.proofs.Common.{◌≡◌, ℕ, ◌<◌, true, ◌⊎◌, List, [], ◌∷◌, map, length, refl, ap, inl, inr, arith, lit≤}
 use Rattle.std.proofs.lemmas.Bool.Decides.{nat_tests}
 use Rattle.grade.specs.Kind.{Laws}
 use Rattle.grade.specs.Kinds.{points}
@@ -60,11 +60,8 @@ Each P (box i m a b c d) = P m × (Each P a × Each P b × Each P c × Each P d)
 
 each_shown : (P : Spot → Type 0) (t : Tree) → Each P t → (x : Spot) → Shows t x → P x
 each_shown P none h x v = absurd v
-each_shown P (box i m a b c d) h x (inl e) = subst P (sym e) h.0
-each_shown P (box i m a b c d) h x (inr (inl v)) = each_shown P a h.1.0 x v
-each_shown P (box i m a b c d) h x (inr (inr (inl v))) = each_shown P b h.1.1 x v
-each_shown P (box i m a b c d) h x (inr (inr (inr (inl v)))) = each_shown P c h.1.2 x v
-each_shown P (box i m a b c d) h x (inr (inr (inr (inr v)))) = each_shown P d h.1.3 x v
+each_shown P (box i m a b c d) h x v =
+    grind (arith, h.0, each_shown P a h.1.0 x, each_shown P b h.1.1 x, each_shown P c h.1.2 x, each_shown P d h.1.3 x)
 
 -- what holds of the five marks holds of all that are shown
 of_five : (P : Spot → Type 0)
@@ -117,20 +114,16 @@ whole_drawn l pos shown falls placed cells =
     record {
       listed = λ x p. all_seen x (shown x p);
       falls = falls;
-      left_out = λ x v out. left x out (placed x v.shown);
+      left_out = λ x v out. elim (placed x v.shown) [ inl p ↦ absurd (out p) | inr p ↦ p ];
       few = λ h. absurd (omega arith);
       most = omega arith;
     }
     cells
-  where
-    left : (x : Spot) → (In l x → ⊥) → Placed l x → LastOver points l x
-    left x out (inl p) = absurd (out p)
-    left x out (inr p) = p
 
 two : Drawn (window 0 0 3 3) 2 (mark 0 3 9 ∷ mark 2 1 7 ∷ [])
 two =
     whole_drawn l (lit≤ tt)
-    (λ x. elim [ inl e ↦ inl e | inr (inl e) ↦ inr (inr (inr (inl (inl e)))) | inr (inr p) ↦ absurd p ])
+    (λ x p. grind arith)
     (over _ _ refl, tt)
     (of_five (Placed l)
     (inr (over _ _ refl))
@@ -146,12 +139,7 @@ two =
 three : Drawn (window 0 0 3 3) 3 (mark 0 3 9 ∷ mark 2 1 7 ∷ mark 0 0 5 ∷ [])
 three =
     whole_drawn l (lit≤ tt)
-    (λ x. elim [
-      | inl e ↦ inl e
-      | inr (inl e) ↦ inr (inr (inr (inl (inl e))))
-      | inr (inr (inl e)) ↦ inr (inl (inl e))
-      | inr (inr (inr p)) ↦ absurd p
-    ])
+    (λ x p. grind arith)
     (over _ _ refl, (over _ _ refl, tt))
     (of_five (Placed l)
     (inl (inr (inr (inl refl))))
