@@ -118,30 +118,29 @@ one_top k L P n (x ∷ l) (y ∷ r) h g =
     cc
 
 -- the n best of the marks of a list
-pub some_top : (k : Kind) → Laws k → (n : ℕ) (s : List Spot) → (l : List Spot) × Top k (In s) n l
-some_top k L n [] = ([], record { listed = λ x p. p; chain = tt; rest = λ x p. absurd p; most = omega arith })
-some_top k L zero s = ([], record { listed = λ x p. absurd p; chain = tt; rest = λ x p. inr (refl, λ y q. absurd q); most = omega arith })
-some_top k L (suc n) (y ∷ s) = go (some_top k L n (filter (outranks k x) (y ∷ s)))
-  where
-    x : Spot
-    x = best k y s
+abbrev pub top_of : Kind → ℕ → List Spot → List Spot
+top_of k zero s = []
+top_of k (suc n) [] = []
+top_of k (suc n) (y ∷ s) = let x = best k y s in x ∷ top_of k n (filter (outranks k x) (y ∷ s))
 
-    go : ((l : List Spot) × Top k (In (filter (outranks k x) (y ∷ s))) n l) → (l : List Spot) × Top k (In (y ∷ s)) (suc n) l
-    go r = (
-      x ∷ r.0,
-      record {
-        listed = λ z p. elim p [ inl e ↦ subst (In (y ∷ s)) (sym e) (best_in k y s) | inr g ↦ (kept_in (outranks k x) (y ∷ s) z (r.1.listed z g)).0 ];
-        chain = (λ z g. (decides_outranks k x z).0 (kept_in (outranks k x) (y ∷ s) z (r.1.listed z g)).1, r.1.chain);
-        rest = λ z p. elim (best_leads k L y s z p) [
-          | inl e ↦ inl (inl e)
-          | inr o ↦ elim (r.1.rest z (kept_has (outranks k x) (y ∷ s) z p ((decides_outranks k x z).1 o))) [
-            | inl g ↦ inl (inr g)
-            | inr g ↦ inr (ap suc g.0, λ v q. elim q [ inl e ↦ subst (λ (u : Spot). Outranks k u z) (sym e) o | inr i ↦ g.1 v i ])
-          ]
-        ];
-        most = let m = r.1.most in omega arith;
-      },
-    )
+pub some_top : (k : Kind) → Laws k → (n : ℕ) (s : List Spot) → Top k (In s) n (top_of k n s)
+some_top k L zero s = record { listed = λ x p. absurd p; chain = tt; rest = λ x p. inr (refl, λ y q. absurd q); most = omega arith }
+some_top k L (suc n) [] = record { listed = λ x p. p; chain = tt; rest = λ x p. absurd p; most = omega arith }
+some_top k L (suc n) (y ∷ s) =
+    let x = best k y s in
+    let r = some_top k L n (filter (outranks k x) (y ∷ s)) in
+    record {
+      listed = λ z p. elim p [ inl e ↦ subst (In (y ∷ s)) (sym e) (best_in k y s) | inr g ↦ (kept_in (outranks k x) (y ∷ s) z (r.listed z g)).0 ];
+      chain = (λ z g. (decides_outranks k x z).0 (kept_in (outranks k x) (y ∷ s) z (r.listed z g)).1, r.chain);
+      rest = λ z p. elim (best_leads k L y s z p) [
+        | inl e ↦ inl (inl e)
+        | inr o ↦ elim (r.rest z (kept_has (outranks k x) (y ∷ s) z p ((decides_outranks k x z).1 o))) [
+          | inl g ↦ inl (inr g)
+          | inr g ↦ inr (ap suc g.0, λ v q. elim q [ inl e ↦ subst (λ (u : Spot). Outranks k u z) (sym e) o | inr i ↦ g.1 v i ])
+        ]
+      ];
+      most = let m = r.most in omega arith;
+    }
 
 pub one_best : (k : Kind) → Laws k → (P : Spot → Type 0) → (n : ℕ) (l r : List Spot) → Best k P n l → Best k P n r → l ≡ r
 one_best k L P n l r h g = one_top k L P n l r (top_from_best k L P n l h) (top_from_best k L P n r g)

@@ -4,7 +4,7 @@ use Rattle.std.proofs.lemmas.Bool.Decides.{nat_tests, Decides-and, Decides-or}
 use Rattle.std.proofs.lemmas.Bool.{false≢true}
 use Rattle.grade.specs.Kind.{Kind, Laws}
 use Rattle.treap.specs.Spots.{Spot, Outranks}
-use Rattle.treap.specs.Trees.{Quadrant, tl, tr, bl, br, Square, quadrant, Tree, none, box, pick, Shows, Ordered, unnumbered, In, Apart, numbers}
+use Rattle.treap.specs.Trees.{Quadrant, tl, tr, bl, br, Square, quadrant, Tree, none, box, pick, Shows, Ordered, Lone, unnumbered, In, Apart, numbers}
 use Rattle.treap.specs.Plants.{outranks}
 use Rattle.treap.specs.Sums.{one_if}
 use Rattle.treap.specs.Draws.{Window, Sees, Touches, Seen, Best, Part, whole, deeper, cell, Draws, OneDraw, SomeDraw}
@@ -13,7 +13,7 @@ use Rattle.treap.proofs.Shown.{below, split, one_tree_lem}
 use Rattle.treap.proofs.Counts.{same, same_is, is_same}
 use Rattle.treap.proofs.Lists.{in_four, from_four, four_in, four_under, each_apart, by_quadrant, quarter, apart_shorter, apart_map}
 use Rattle.treap.proofs.Parts.{part_of_part}
-use Rattle.treap.proofs.Bests.{Chain, one_best, best_of, best_from_top, some_top}
+use Rattle.treap.proofs.Bests.{Chain, one_best, best_of, best_from_top, top_of, some_top}
 use Rattle.treap.proofs.Plants.{kept_in, kept_has}
 use Rattle.treap.proofs.Needed.{Reaches, Wanted, Numbered, wanted_is_needed, wanted_is_enough}
 
@@ -232,12 +232,11 @@ one_draw_lem k L s t u ht hu at au f g w n pos l r o p dt du =
     (el, cc)
 
 -- the marks of a tree, listed
-marks : Tree → List Spot
+abbrev pub marks : Tree → List Spot
 marks none = []
 marks (box i m a b c d) = m ∷ (marks a ++ (marks b ++ (marks c ++ marks d)))
 
 marks_shown : (t : Tree) (x : Spot) → In (marks t) x → Shows t x
-unfolding marks
 marks_shown none x h = h
 marks_shown (box i m a b c d) x h =
     let each : (q : Quadrant) → In (marks (pick a b c d q)) x → Shows (pick a b c d q) x =
@@ -245,7 +244,6 @@ marks_shown (box i m a b c d) x h =
     elim h [ inl e ↦ inl e | inr p ↦ let r = from_four (λ q. marks (pick a b c d q)) x p in below a b c d i m x r.0 (each r.0 r.1) ]
 
 shown_marks : (t : Tree) (x : Spot) → Shows t x → In (marks t) x
-unfolding marks
 shown_marks none x h = h
 shown_marks (box i m a b c d) x h =
     let each : (q : Quadrant) → Shows (pick a b c d q) x → In (marks (pick a b c d q)) x =
@@ -253,21 +251,34 @@ shown_marks (box i m a b c d) x h =
     elim (split a b c d m x i h) [ inl e ↦ inl e | inr v ↦ inr (in_four (λ q. marks (pick a b c d q)) v.0 x (each v.0 v.1)) ]
 
 -- the mark lies in the window, as a test
-abbrev sees : Window → Spot → Bool
+abbrev pub sees : Window → Spot → Bool
 sees w m = (leb w.top m.row && leb m.row w.bottom) && (leb w.left m.col && leb m.col w.right)
 
 decides_sees : (w : Window) (m : Spot) → Decides (sees w m) (Sees w m.row m.col)
 decides_sees w m = (λ e. grind (arith, nat_tests), λ v. grind (arith, nat_tests, v.not_above, v.not_below, v.not_left, v.not_right))
 
-pub some_draw_lem : SomeDraw
-some_draw_lem k L s t h lone ap' w n pos =
+-- the n best marks of a tree in a window
+abbrev pub best_seen : Kind → Tree → Window → ℕ → List Spot
+best_seen k t w n = top_of k n (filter (sees w) (marks t))
+
+pub best_seen_draws : (k : Kind)
+    → Laws k
+    → (s : Square) (t : Tree)
+    → Ordered k s t
+    → Lone t
+    → Apart (numbers t)
+    → (w : Window) (n : ℕ)
+    → 0 < n
+    → Draws k s t w n (best_seen k t w n) (tally k w n (best_seen k t w n) s t)
+best_seen_draws k L s t h lone ap' w n pos =
+    let l = best_seen k t w n in
     let r = some_top k L n (filter (sees w) (marks t)) in
     let seen : (x : Spot) → In (filter (sees w) (marks t)) x → Seen t w x =
     λ x p. let v = kept_in (sees w) (marks t) x p in record { shown = marks_shown t x v.0; seen = (decides_sees w x).0 v.1 } in
     let there : (x : Spot) → Seen t w x → In (filter (sees w) (marks t)) x =
-    λ x v. kept_has (sees w) (marks t) x (shown_marks t x v.shown) ((decides_sees w x).1 v.seen) in (
-      r.0,
-      tally k w n r.0 s t,
-      best_draws k L s t h ap' w n pos r.0 (best_of k _ (Seen t w) seen there n r.0 (best_from_top k _ n r.0 pos r.1))
-          (cells_apart k r.0 r.1.chain (λ x y p q. lone x y (seen x (r.1.listed x p)).shown (seen y (r.1.listed y q)).shown)),
-    )
+    λ x v. kept_has (sees w) (marks t) x (shown_marks t x v.shown) ((decides_sees w x).1 v.seen) in
+    best_draws k L s t h ap' w n pos l (best_of k _ (Seen t w) seen there n l (best_from_top k _ n l pos r))
+    (cells_apart k l r.chain (λ x y p q. lone x y (seen x (r.listed x p)).shown (seen y (r.listed y q)).shown))
+
+pub some_draw_lem : SomeDraw
+some_draw_lem k L s t h lone ap' w n pos = (best_seen k t w n, tally k w n (best_seen k t w n) s t, best_seen_draws k L s t h lone ap' w n pos)

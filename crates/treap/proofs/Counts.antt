@@ -1,5 +1,6 @@
 -- Marks of a tree by sums: a mark is shown where it is counted.
-use Rattle.std.proofs.Common.{◌≡◌, ℕ, ◌≤◌, Bool, true, false, ◌&&◌, eqb, refl, ap, arith, eq-eqb, ne_eqb, eqb-true}
+use Rattle.std.proofs.Common.{◌≡◌, ℕ, ◌≤◌, Bool, true, false, ◌&&◌, eqb, refl, ap, arith, eq-eqb, ne_eqb}
+use Rattle.std.proofs.lemmas.Bool.Decides.{nat_tests}
 use Rattle.treap.specs.Spots.{Spot}
 use Rattle.treap.specs.Trees.{Tree, none, box, Shows}
 use Rattle.treap.specs.Sums.{one_if, mark_sum, at_cell, in_cell}
@@ -23,12 +24,10 @@ pub true_both : (a b : Bool) → a ≡ true → b ≡ true → a && b ≡ true
 true_both a b e f = rw (e, f)
 
 pub at_cell_is : (row col : ℕ) (m : Spot) → at_cell row col m ≡ true → (row ≡ m.row) × (col ≡ m.col)
-at_cell_is row col m e =
-    let h = both_true (eqb row m.row) (eqb col m.col) e in
-    (eqb-true row m.row h.0, eqb-true col m.col h.1)
+at_cell_is row col m e = (grind (arith, nat_tests), grind (arith, nat_tests))
 
 pub is_at_cell : (row col : ℕ) (m : Spot) → row ≡ m.row → col ≡ m.col → at_cell row col m ≡ true
-is_at_cell row col m e f = true_both _ _ (eq-eqb row m.row e) (eq-eqb col m.col f)
+is_at_cell row col m e f = grind (arith, nat_tests)
 
 -- x and y are one mark
 abbrev pub same : Spot → Spot → Bool
@@ -39,15 +38,10 @@ abbrev pub has : Spot → Tree → ℕ
 has x t = mark_sum (λ y. one_if (same x y)) t
 
 pub same_is : (x y : Spot) → same x y ≡ true → x ≡ y
-same_is x y e =
-    let h = both_true (at_cell x.row x.col y) (eqb x.grade y.grade) e in
-    let c = at_cell_is x.row x.col y h.0 in
-    spot_eq x y c.0 c.1 (eqb-true x.grade y.grade h.1)
+same_is x y e = spot_eq x y (grind (arith, nat_tests)) (grind (arith, nat_tests)) (grind (arith, nat_tests))
 
 pub is_same : (x y : Spot) → x ≡ y → same x y ≡ true
-is_same x y e =
-    true_both _ _ (is_at_cell x.row x.col y (ap (λ (z : Spot). z.row) e) (ap (λ (z : Spot). z.col) e))
-    (eq-eqb x.grade y.grade (ap (λ (z : Spot). z.grade) e))
+is_same x y e = grind (arith, nat_tests)
 
 pub has_self : (x y : Spot) → x ≡ y → one_if (same x y) ≡ 1
 has_self x y e = ap one_if (is_same x y e)

@@ -21,10 +21,6 @@ or_right : (t : Tree) → or t none ≡ t
 or_right none = refl
 or_right (box m s a b c d) = refl
 
-or_none : (t u : Tree) → or t u ≡ none → (t ≡ none) × (u ≡ none)
-or_none none u e = (refl, e)
-or_none (box j x a b c d) u e = absurd (box_none e)
-
 -- the first of four trees that has a box
 module _ (f : Quadrant → Tree) where
   abbrev pub chosen : Tree
@@ -36,13 +32,6 @@ module _ (f : Quadrant → Tree) where
   chosen_is tr h = rw (h tl (λ e. cc), h bl (λ e. cc), h br (λ e. cc)) (or_right (f tr))
   chosen_is bl h = rw (h tl (λ e. cc), h tr (λ e. cc), h br (λ e. cc)) (or_right (f bl))
   chosen_is br h = rw (h tl (λ e. cc), h tr (λ e. cc), h bl (λ e. cc))
-
-  pub chosen_none : chosen ≡ none → (q : Quadrant) → f q ≡ none
-  chosen_none e =
-      let x = or_none (f tl) _ e in
-      let y = or_none (f tr) _ x.1 in
-      let z = or_none (f bl) _ y.1 in
-      by_quadrant _ x.0 y.0 z.0 z.1
 
 boxed : (t : Tree) (n : ℕ) → number t ≡ Some n → Boxed t
 boxed none n e = cc
