@@ -160,37 +160,6 @@ module _ (k : Kind) (w : Window) (n : ℕ) (l : List Spot) where
       (four_under (quarter a b c d) (part s a b c d) within h.1
       (by_quadrant _ (gather_apart (quadrant tl s) a (below tl)) (gather_apart (quadrant tr s) b (below tr)) (gather_apart (quadrant bl s) c (below bl)) (gather_apart (quadrant br s) d (below br))))
 
--- the best marks of a window, of which no two stand in one cell, are what a draw lists, and the wanted boxes what it opens
-pub best_draws : (k : Kind)
-    → Laws k
-    → (s : Square) (t : Tree)
-    → Ordered k s t
-    → Apart (numbers t)
-    → (w : Window) (n : ℕ)
-    → 0 < n
-    → (l : List Spot)
-    → Best k (Seen t w) n l
-    → Apart (map cell l)
-    → Draws k s t w n l (tally k w n l s t)
-best_draws k L s t h ap' w n pos l b c =
-    record {
-      best = b;
-      cells = c;
-      set = gather k w n l s t;
-      of_tree = gathered_numbers k w n l s t;
-      once = gather_apart k w n l s t ap';
-      enough =
-          wanted_is_enough k L s t w n l pos b.most (gather k w n l s t)
-          (λ r u p v. numbered_part k w n l u p (wanted_gathered k w n l r u v));
-      size = length_gather k w n l s t;
-      least = λ S j.
-          let few =
-          apart_shorter (gather k w n l s t) S (gather_apart k w n l s t ap')
-          (gathered_in k w n l S s t (λ r u p v. wanted_is_needed k L s t h w n l S j r u p v)) in
-          let e = length_gather k w n l s t in
-          omega arith;
-    }
-
 -- marks that fall, of which no two stand in one cell, have no cell twice
 pub cells_apart : (k : Kind) (l : List Spot)
     → Chain k l
@@ -199,37 +168,6 @@ pub cells_apart : (k : Kind) (l : List Spot)
 cells_apart k l f one =
     apart_map cell (Outranks k) l f
     (λ x y p q o e. irrefl_eq k x y (one x y p q (ap (λ (z : ℕ × ℕ). z.0) e) (ap (λ (z : ℕ × ℕ). z.1) e)) o)
-
--- the count of a draw's answer is the count of the wanted boxes
-opened_is_tally : (k : Kind)
-    → Laws k
-    → (s : Square) (t : Tree)
-    → Ordered k s t
-    → Apart (numbers t)
-    → (w : Window) (n : ℕ)
-    → 0 < n
-    → (l : List Spot) (o : ℕ)
-    → Draws k s t w n l o
-    → o ≡ tally k w n l s t
-opened_is_tally k L s t h ap' w n pos l o dr =
-    let dt = best_draws k L s t h ap' w n pos l dr.best dr.cells in
-    let up = dr.least dt.set dt.enough in
-    let down = dt.least dr.set dr.enough in
-    let e = dr.size in
-    let f = dt.size in
-    omega arith
-
-pub one_draw_lem : OneDraw
-one_draw_lem k L s t u ht hu at au f g w n pos l r o p dt du =
-    let el : l ≡ r =
-    one_best k L (Seen t w) n l r dt.best
-    (best_of k (Seen u w) (Seen t w) (λ x v. record { shown = g x v.shown; seen = v.seen }) (λ x v. record { shown = f x v.shown; seen = v.seen }) n r du.best) in
-    let et = opened_is_tally k L s t ht at w n pos l o dt in
-    let eu = opened_is_tally k L s u hu au w n pos r p du in
-    let en = one_tree_lem k L s t u ht hu f g in
-    let nt = tally_unnumbered k w n l s t in
-    let nu = tally_unnumbered k w n r s u in
-    (el, cc)
 
 -- the marks of a tree, listed
 abbrev pub marks : Tree → List Spot
@@ -261,24 +199,61 @@ decides_sees w m = (λ e. grind (arith, nat_tests), λ v. grind (arith, nat_test
 abbrev pub best_seen : Kind → Tree → Window → ℕ → List Spot
 best_seen k t w n = top_of k n (filter (sees w) (marks t))
 
-pub best_seen_draws : (k : Kind)
-    → Laws k
-    → (s : Square) (t : Tree)
-    → Ordered k s t
-    → Lone t
-    → Apart (numbers t)
-    → (w : Window) (n : ℕ)
-    → 0 < n
-    → Draws k s t w n (best_seen k t w n) (tally k w n (best_seen k t w n) s t)
-best_seen_draws k L s t h lone ap' w n pos =
-    let l = best_seen k t w n in
-    let r = some_top k L n (filter (sees w) (marks t)) in
-    let seen : (x : Spot) → In (filter (sees w) (marks t)) x → Seen t w x =
-    λ x p. let v = kept_in (sees w) (marks t) x p in record { shown = marks_shown t x v.0; seen = (decides_sees w x).0 v.1 } in
-    let there : (x : Spot) → Seen t w x → In (filter (sees w) (marks t)) x =
-    λ x v. kept_has (sees w) (marks t) x (shown_marks t x v.shown) ((decides_sees w x).1 v.seen) in
-    best_draws k L s t h ap' w n pos l (best_of k _ (Seen t w) seen there n l (best_from_top k _ n l pos r))
-    (cells_apart k l r.chain (λ x y p q. lone x y (seen x (r.listed x p)).shown (seen y (r.listed y q)).shown))
+module _ (k : Kind) (L : Laws k) (s : Square) (t : Tree) (h : Ordered k s t) (ap' : Apart (numbers t)) (w : Window) (n : ℕ) (pos : 0 < n) where
+  -- the best marks of a window, of which no two stand in one cell, are what a draw lists, and the wanted boxes what it opens
+  best_draws : (l : List Spot) → Best k (Seen t w) n l → Apart (map cell l) → Draws k s t w n l (tally k w n l s t)
+  best_draws l b c =
+      record {
+        best = b;
+        cells = c;
+        set = gather k w n l s t;
+        of_tree = gathered_numbers k w n l s t;
+        once = gather_apart k w n l s t ap';
+        enough =
+            wanted_is_enough k L s t w n l pos b.most (gather k w n l s t)
+            (λ r u p v. numbered_part k w n l u p (wanted_gathered k w n l r u v));
+        size = length_gather k w n l s t;
+        least = λ S j.
+            let few =
+            apart_shorter (gather k w n l s t) S (gather_apart k w n l s t ap')
+            (gathered_in k w n l S s t (λ r u p v. wanted_is_needed k L s t h w n l S j r u p v)) in
+            let e = length_gather k w n l s t in
+            omega arith;
+      }
+
+  -- the count of a draw's answer is the count of the wanted boxes
+  opened_is_tally : (l : List Spot) (o : ℕ) → Draws k s t w n l o → o ≡ tally k w n l s t
+  opened_is_tally l o dr =
+      let dt = best_draws l dr.best dr.cells in
+      let up = dr.least dt.set dt.enough in
+      let down = dt.least dr.set dr.enough in
+      let e = dr.size in
+      let f = dt.size in
+      omega arith
+
+  pub best_seen_draws : Lone t → Draws k s t w n (best_seen k t w n) (tally k w n (best_seen k t w n) s t)
+  best_seen_draws lone =
+      let l = best_seen k t w n in
+      let r = some_top k L n (filter (sees w) (marks t)) in
+      let seen : (x : Spot) → In (filter (sees w) (marks t)) x → Seen t w x =
+      λ x p. let v = kept_in (sees w) (marks t) x p in record { shown = marks_shown t x v.0; seen = (decides_sees w x).0 v.1 } in
+      let there : (x : Spot) → Seen t w x → In (filter (sees w) (marks t)) x =
+      λ x v. kept_has (sees w) (marks t) x (shown_marks t x v.shown) ((decides_sees w x).1 v.seen) in
+      best_draws l (best_of k _ (Seen t w) seen there n l (best_from_top k _ n l pos r))
+      (cells_apart k l r.chain (λ x y p q. lone x y (seen x (r.listed x p)).shown (seen y (r.listed y q)).shown))
 
 pub some_draw_lem : SomeDraw
-some_draw_lem k L s t h lone ap' w n pos = (best_seen k t w n, tally k w n (best_seen k t w n) s t, best_seen_draws k L s t h lone ap' w n pos)
+some_draw_lem k L s t h lone ap' w n pos =
+    (best_seen k t w n, tally k w n (best_seen k t w n) s t, best_seen_draws k L s t h ap' w n pos lone)
+
+pub one_draw_lem : OneDraw
+one_draw_lem k L s t u ht hu at au f g w n pos l r o p dt du =
+    let el : l ≡ r =
+    one_best k L (Seen t w) n l r dt.best
+    (best_of k (Seen u w) (Seen t w) (λ x v. record { shown = g x v.shown; seen = v.seen }) (λ x v. record { shown = f x v.shown; seen = v.seen }) n r du.best) in
+    let et = opened_is_tally k L s t ht at w n pos l o dt in
+    let eu = opened_is_tally k L s u hu au w n pos r p du in
+    let en = one_tree_lem k L s t u ht hu f g in
+    let nt = tally_unnumbered k w n l s t in
+    let nu = tally_unnumbered k w n r s u in
+    (el, cc)

@@ -58,7 +58,7 @@ boxes_lone x y v u er ec = grind arith
 
 -- the best marks of the window, and as many boxes as are wanted, answer a draw
 drawn : (w : Window) (n : ℕ) → 0 < n → let l = best_seen points trial_boxes w n in Draws points (plan_square 2) trial_boxes w n l (tally points w n l (plan_square 2) trial_boxes)
-drawn = best_seen_draws points points_laws (plan_square 2) trial_boxes boxes_ordered boxes_lone boxes_apart
+drawn w n pos = best_seen_draws points points_laws (plan_square 2) trial_boxes boxes_ordered boxes_apart w n pos boxes_lone
 
 pub trial_draws : TrialDraws
 trial_draws =
