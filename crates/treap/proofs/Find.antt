@@ -42,7 +42,7 @@ root_in none n e = cc
 root_in (box i m a b c d) n e = inl (cc)
 
 -- a number that no box has finds nothing
-pub find_miss : (n : ℕ) (t : Tree) → (In (numbers t) n → ⊥) → find n t ≡ none
+find_miss : (n : ℕ) (t : Tree) → (In (numbers t) n → ⊥) → find n t ≡ none
 find_miss n none h = refl
 find_miss n (box i m a b c d) h =
     let no : (q : Quadrant) → In (numbers (pick a b c d q)) n → ⊥ = λ q p. h (inr (in_four (quarter a b c d) q n p)) in

@@ -4,12 +4,11 @@ use Rattle.treap.specs.Trees.{Quadrant, tl, tr, bl, br, Tree, pick, numbers, In,
 
 pub in? : {A : Type 0} → ((x y : A) → Dec (x ≡ y)) → (l : List A) (x : A) → In l x ⊎ (In l x → ⊥)
 in? eq [] x = inr (λ h. h)
-in? {A} eq (y ∷ l) x = go (eq x y) (in? eq l x)
-  where
-    go : Dec (x ≡ y) → In l x ⊎ (In l x → ⊥) → In (y ∷ l) x ⊎ (In (y ∷ l) x → ⊥)
-    go (yes e) _ = inl (inl e)
-    go (no e) (inl h) = inl (inr h)
-    go (no e) (inr h) = inr (elim [ inl p ↦ e p | inr p ↦ h p ])
+in? eq (y ∷ l) x =
+    elim (eq x y) [
+      | yes e ↦ inl (inl e)
+      | no e ↦ elim (in? eq l x) [ inl h ↦ inl (inr h) | inr h ↦ inr (elim [ inl p ↦ e p | inr p ↦ h p ]) ]
+    ]
 
 pub in_first : {A : Type 0} (l r : List A) (x : A) → In l x → In (l ++ r) x
 in_first [] r x h = absurd h
@@ -38,10 +37,8 @@ length_without (y ∷ l) x (inr h) = ap suc (length_without l x h)
 in_without : {A : Type 0} (l : List A) (x : A) (h : In l x) (z : A) → In l z → (z ≡ x → ⊥) → In (without l x h) z
 unfolding without
 in_without [] x h z g ne = absurd h
-in_without (y ∷ l) x (inl e) z (inl p) ne = absurd (ne (p ∙ sym e))
-in_without (y ∷ l) x (inl e) z (inr p) ne = p
-in_without (y ∷ l) x (inr h) z (inl p) ne = inl p
-in_without (y ∷ l) x (inr h) z (inr p) ne = inr (in_without l x h z p ne)
+in_without (y ∷ l) x (inl e) z g ne = elim g [ inl p ↦ absurd (ne (p ∙ sym e)) | inr p ↦ p ]
+in_without (y ∷ l) x (inr h) z g ne = elim g [ inl p ↦ inl p | inr p ↦ inr (in_without l x h z p ne) ]
 
 -- a list with no element twice is no longer than a list that has all its elements
 pub apart_shorter : {A : Type 0} (l r : List A) → Apart l → ((x : A) → In l x → In r x) → length l ≤ length r
@@ -144,7 +141,7 @@ module _ {A : Type 0} (f : Quadrant → List A) where
       go br br u v = refl
       go _ _ u v = absurd (search (no_tl, no_tr, no_bl, in_parts))
 
-  pub four_apart : ((q : Quadrant) → Apart (f q)) → ((p q : Quadrant) (x : A) → In (f p) x → In (f q) x → p ≡ q) → Apart four
+  four_apart : ((q : Quadrant) → Apart (f q)) → ((p q : Quadrant) (x : A) → In (f p) x → In (f q) x → p ≡ q) → Apart four
   four_apart each one =
       apart_joined (f tl) _ (each tl)
       (apart_joined (f tr) _ (each tr) (apart_joined (f bl) (f br) (each bl) (each br) (λ x u v. grind (arith, one bl br x u v)))
