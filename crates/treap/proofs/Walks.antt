@@ -22,7 +22,7 @@ abbrev pub Fell : Kind → List Node → Type 0
 Fell k = Pairs (λ (e f : Node). Outranks k f.mark e.mark)
 
 -- a tree is one of the boxes of the list, or stands below one
-abbrev pub Under : List Node → Square → Tree → Type 0
+abbrev Under : List Node → Square → Tree → Type 0
 Under wait r u = (f : Node) × In wait f × Part f.square (tree f) r u
 
 -- the boxes done are opened, and the boxes that wait are all that is left of the window
@@ -32,7 +32,7 @@ pub record Walk (k : Kind) (s : Square) (t : Tree) (w : Window) (done wait : Lis
   pub spread : Spread wait
   pub fell : Fell k done
   pub above : (e f : Node) → In done e → In wait f → Outranks k e.mark f.mark
-  pub cover : (e : Node) → Part s t e.square (tree e) → Touches e.square w → In done e ⊎ Under wait e.square (tree e)
+  pub cover : (e : Node) → Part s t e.square (tree e) → Touches e.square w → In done e ⊎ ((f : Node) × In wait f × Part f.square (tree f) e.square (tree e))
 
 -- the marks of the window among the boxes done are listed
 pub record Lists (k : Kind) (w : Window) (n : ℕ) (done : List Node) (l : List Spot) : Type 0 where
@@ -50,6 +50,62 @@ pub record Kids (w : Window) (f : Node) (kids : List Node) : Type 0 where
 
 abbrev pub Search : Kind → Square → Tree → Window → ℕ → List Node → List Node → List Spot → Type 0
 Search k s t w n done wait l = Walk k s t w done wait × Lists k w n done l
+
+-- at first the root waits, if it touches the window
+abbrev pub SearchStarts : Type 0
+SearchStarts =
+    (k : Kind)
+    → (e : Node)
+    → Ordered k e.square (tree e)
+    → (w : Window) (n : ℕ)
+    → 0 < n
+    → Touches e.square w
+    → Search k e.square (tree e) w n [] (e ∷ []) []
+
+-- a box that no waiting box outranks is opened: the boxes below it wait, and its mark is listed if it lies in the window
+abbrev pub SearchLists : Type 0
+SearchLists =
+    (k : Kind)
+    → Laws k
+    → (s : Square) (t : Tree)
+    → Ordered k s t
+    → (w : Window) (n : ℕ) (done wait : List Node) (l : List Spot) (f : Node) (kids : List Node)
+    → Search k s t w n done (f ∷ wait) l
+    → length l < n
+    → ((e : Node) → In wait e → Outranks k e.mark f.mark → ⊥)
+    → Kids w f kids
+    → Sees w f.mark.row f.mark.col
+    → Search k s t w n (f ∷ done) (kids ++ wait) (l ++ (f.mark ∷ []))
+
+abbrev pub SearchPasses : Type 0
+SearchPasses =
+    (k : Kind)
+    → Laws k
+    → (s : Square) (t : Tree)
+    → Ordered k s t
+    → (w : Window) (n : ℕ) (done wait : List Node) (l : List Spot) (f : Node) (kids : List Node)
+    → Search k s t w n done (f ∷ wait) l
+    → length l < n
+    → ((e : Node) → In wait e → Outranks k e.mark f.mark → ⊥)
+    → Kids w f kids
+    → (Sees w f.mark.row f.mark.col → ⊥)
+    → Search k s t w n (f ∷ done) (kids ++ wait) l
+
+-- where as many are listed as asked for, or nothing waits, the list and the count of the opened boxes are the draw's answer
+abbrev pub SearchEnds : Type 0
+SearchEnds =
+    (k : Kind)
+    → Laws k
+    → (s : Square) (t : Tree)
+    → Ordered k s t
+    → Lone t
+    → Apart (numbers t)
+    → (w : Window) (n : ℕ)
+    → 0 < n
+    → (done wait : List Node) (l : List Spot)
+    → Search k s t w n done wait l
+    → (length l ≡ n) ⊎ (wait ≡ [])
+    → Draws k s t w n l (length done)
 
 pub touches_part : (k : Kind) (w : Window) {s : Square} {t : Tree} {r : Square} {u : Tree} → Part s t r u → Ordered k s t → Boxed u → Touches r w → Touches s w
 touches_part k w whole h g v = v
@@ -96,14 +152,7 @@ spread_joined (x ∷ l) r hl hr f = (
   spread_joined l r hl.1 hr (λ e g p. f e g (inr p)),
 )
 
--- at first the root waits, if it touches the window
-pub search_starts : (k : Kind)
-    → (e : Node)
-    → Ordered k e.square (tree e)
-    → (w : Window) (n : ℕ)
-    → 0 < n
-    → Touches e.square w
-    → Search k e.square (tree e) w n [] (e ∷ []) []
+pub search_starts : SearchStarts
 search_starts k e h w n pos touch = (
   record {
     done_parts = λ f p. absurd p;
@@ -119,7 +168,7 @@ search_starts k e h w n pos touch = (
   record { listed = λ x p. absurd p; all = λ f p. absurd p; falls = tt; last = λ z f p. absurd p; most = omega arith },
 )
 
--- a box that no waiting box outranks is opened: the boxes below it wait, and its mark is listed if it lies in the window
+-- the next box is opened
 module _ (k : Kind) (L : Laws k) (s : Square) (t : Tree) (h : Ordered k s t) (w : Window) (n : ℕ) (done wait : List Node) (l : List Spot) (f : Node) (kids : List Node) (st : Search k s t w n done (f ∷ wait) l) (few : length l < n) (best : (e : Node) → In wait e → Outranks k e.mark f.mark → ⊥) (K : Kids w f kids) where
   abbrev walk : Walk k s t w done (f ∷ wait)
   walk = st.0
@@ -205,8 +254,8 @@ module _ (k : Kind) (L : Laws k) (s : Square) (t : Tree) (h : Ordered k s t) (w 
         cover = step_cover;
       }
 
-  pub search_lists : Sees w f.mark.row f.mark.col → Search k s t w n (f ∷ done) (kids ++ wait) (l ++ (f.mark ∷ []))
-  search_lists seen = (
+  lists_on : Sees w f.mark.row f.mark.col → Search k s t w n (f ∷ done) (kids ++ wait) (l ++ (f.mark ∷ []))
+  lists_on seen = (
     walk_on,
     record {
       listed = λ x p. elim (in_append l (f.mark ∷ []) x p) [
@@ -226,8 +275,8 @@ module _ (k : Kind) (L : Laws k) (s : Square) (t : Tree) (h : Ordered k s t) (w 
     },
   )
 
-  pub search_passes : (Sees w f.mark.row f.mark.col → ⊥) → Search k s t w n (f ∷ done) (kids ++ wait) l
-  search_passes unseen = (
+  passes_on : (Sees w f.mark.row f.mark.col → ⊥) → Search k s t w n (f ∷ done) (kids ++ wait) l
+  passes_on unseen = (
     walk_on,
     record {
       listed = λ x p. let r = st.1.listed x p in (r.0, inr r.1, r.2, r.3);
@@ -238,6 +287,12 @@ module _ (k : Kind) (L : Laws k) (s : Square) (t : Tree) (h : Ordered k s t) (w 
     },
   )
 
+pub search_lists : SearchLists
+search_lists = lists_on
+
+pub search_passes : SearchPasses
+search_passes = passes_on
+
 -- two boxes with one number have one mark
 one_number : (s : Square) (t : Tree) → Apart (numbers t) → (e f : Node) → Part s t e.square (tree e) → Part s t f.square (tree f) → e.number ≡ f.number → e.mark ≡ f.mark
 one_number s t h e f p q x =
@@ -246,19 +301,7 @@ one_number s t h e f p q x =
 abbrev name : Node → ℕ
 name e = e.number
 
--- where as many are listed as asked for, or nothing waits, the list and the count of the opened boxes are the draw's answer
-pub search_ends : (k : Kind)
-    → Laws k
-    → (s : Square) (t : Tree)
-    → Ordered k s t
-    → Lone t
-    → Apart (numbers t)
-    → (w : Window) (n : ℕ)
-    → 0 < n
-    → (done wait : List Node) (l : List Spot)
-    → Search k s t w n done wait l
-    → (length l ≡ n) ⊎ (wait ≡ [])
-    → Draws k s t w n l (length done)
+pub search_ends : SearchEnds
 search_ends k L s t h lone ap' w n pos done wait l st end =
     record {
       best =
