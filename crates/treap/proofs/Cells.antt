@@ -1,11 +1,11 @@
 -- The mark that a tree without two in a cell has in a cell, and its grade.
-use Rattle.std.proofs.Common.{◌≡◌, ℕ, ◌+◌, ◌≤◌, Bool, true, false, cond, ◌⊎◌, is_some, Some, None, Option, sym, refl, ap, inl, inr, arith}
+use Rattle.std.proofs.Common.{◌≡◌, ℕ, ◌+◌, ◌≤◌, Bool, true, false, cond, ◌⊎◌, is_some, Some, None, sym, ◌∙◌, refl, ap, inl, inr, arith}
 use native.Mathlib.Decide.{ℕ_discrete}
 use Rattle.std.proofs.lemmas.Bool.Decides.{nat_tests}
 use Rattle.grade.specs.Kind.{Kind}
 use Rattle.treap.specs.Spots.{Spot}
-use Rattle.treap.specs.Trees.{Quadrant, index, tl, tr, bl, br, Square, Within, quadrant, Tree, none, box, pick, Shows, Ordered, Lone, count}
-use Rattle.treap.specs.Sums.{one_if, mark_sum, at_cell, in_cell, Alone, either, grade_in}
+use Rattle.treap.specs.Trees.{Quadrant, tl, tr, bl, br, Square, Within, quadrant, Tree, none, box, pick, Shows, Ordered, Lone, count}
+use Rattle.treap.specs.Sums.{one_if, mark_sum, at_cell, in_cell, Alone, grade_in}
 use Rattle.treap.proofs.Ranks.{spot_eq}
 use Rattle.treap.proofs.Shown.{shown_holds, lawful_quadrant, one_quadrant}
 use Rattle.treap.proofs.Counts.{at_cell_is, mark_sum_le, same, has, has_self, shows_has, has_shows}
@@ -16,13 +16,9 @@ mark_sum_add f g (box i m a b c d) =
     omega (arith, mark_sum_add f g a, mark_sum_add f g b, mark_sum_add f g c, mark_sum_add f g d)
 
 -- a mark that a tree shows counts in a sum over its marks
-pub shown_le : (f : Spot → ℕ) (t : Tree) (x : Spot) → Shows t x → f x ≤ mark_sum f t
+shown_le : (f : Spot → ℕ) (t : Tree) (x : Spot) → Shows t x → f x ≤ mark_sum f t
 shown_le f none x h = absurd h
-shown_le f (box i m a b c d) x (inl e) = omega (arith, ap f e)
-shown_le f (box i m a b c d) x (inr (inl h)) = omega (arith, shown_le f a x h)
-shown_le f (box i m a b c d) x (inr (inr (inl h))) = omega (arith, shown_le f b x h)
-shown_le f (box i m a b c d) x (inr (inr (inr (inl h)))) = omega (arith, shown_le f c x h)
-shown_le f (box i m a b c d) x (inr (inr (inr (inr h)))) = omega (arith, shown_le f d x h)
+shown_le f (box i m a b c d) x h = grind (arith, shown_le f a x, shown_le f b x, shown_le f c x, shown_le f d x)
 
 pub one_if_tells : (b : Bool) → ((b ≡ true) × (one_if b ≡ 1)) ⊎ ((b ≡ false) × (one_if b ≡ 0))
 one_if_tells true = inl (refl, refl)
@@ -54,101 +50,49 @@ alone_lone t alone x y hx hy er ec = go (ℕ_discrete x.grade y.grade)
         )
         )
 
-either_some : (o p : Option ℕ) (g : ℕ) → either o p ≡ Some g → (o ≡ Some g) ⊎ (p ≡ Some g)
-either_some None p g e = inr e
-either_some (Some x) p g e = inl e
-
-either_none : (o p : Option ℕ) → either o p ≡ None → (o ≡ None) × (p ≡ None)
-either_none None p e = (refl, e)
-either_none (Some x) p e = let z : ◌≡◌ {A = ℕ} 0 1 = cc in absurd (omega arith)
-
 -- the tree shows the mark whose grade it has in a cell
 pub graded_shown : (row col : ℕ) (t : Tree) (g : ℕ) → grade_in row col t ≡ Some g → Shows t (record { row = row; col = col; grade = g })
-graded_shown row col none g e = let z : ◌≡◌ {A = ℕ} 0 1 = cc in absurd (omega arith)
+graded_shown row col none g e = cc
 graded_shown row col (box i m a b c d) g e =
-    go (at_cell row col m) refl e (graded_shown row col a g) (graded_shown row col b g) (graded_shown row col c g) (graded_shown row col d g)
-  where
-    x : Spot
-    x = record { row = row; col = col; grade = g }
-
-    rest : Option ℕ
-    rest = either (grade_in row col a) (either (grade_in row col b) (either (grade_in row col c) (grade_in row col d)))
-
-    go : (v : Bool)
-        → at_cell row col m ≡ v
-        → cond v (Some m.grade) rest ≡ Some g
-        → (grade_in row col a ≡ Some g → Shows a x)
-        → (grade_in row col b ≡ Some g → Shows b x)
-        → (grade_in row col c ≡ Some g → Shows c x)
-        → (grade_in row col d ≡ Some g → Shows d x)
-        → Shows (box i m a b c d) x
-    go true h e fa fb fc fd = inl (spot_eq x m (grind (arith, nat_tests)) (grind (arith, nat_tests)) (cc))
-    go false h e fa fb fc fd =
-        elim (either_some (grade_in row col a) (either (grade_in row col b) (either (grade_in row col c) (grade_in row col d))) g e) [
-          | inl p ↦ inr (inl (fa p))
-          | inr p ↦ elim (either_some (grade_in row col b) (either (grade_in row col c) (grade_in row col d)) g p) [
-            | inl q ↦ inr (inr (inl (fb q)))
-            | inr q ↦ elim (either_some (grade_in row col c) (grade_in row col d) g q) [
-              | inl r ↦ inr (inr (inr (inl (fc r))))
-              | inr r ↦ inr (inr (inr (inr (fd r))))
-            ]
-          ]
-        ]
+    grind (arith, nat_tests, graded_shown row col a g, graded_shown row col b g, graded_shown row col c g, graded_shown row col d g)
 
 -- a cell without a grade has no mark
 pub ungraded_free : (row col : ℕ) (t : Tree) → grade_in row col t ≡ None → in_cell row col t ≡ 0
 ungraded_free row col none e = refl
 ungraded_free row col (box i m a b c d) e =
-    go (at_cell row col m) refl e (ungraded_free row col a) (ungraded_free row col b) (ungraded_free row col c) (ungraded_free row col d)
-  where
-    go : (v : Bool)
-        → at_cell row col m ≡ v
-        → cond v (Some m.grade) (either (grade_in row col a) (either (grade_in row col b) (either (grade_in row col c) (grade_in row col d)))) ≡ None
-        → (grade_in row col a ≡ None → in_cell row col a ≡ 0)
-        → (grade_in row col b ≡ None → in_cell row col b ≡ 0)
-        → (grade_in row col c ≡ None → in_cell row col c ≡ 0)
-        → (grade_in row col d ≡ None → in_cell row col d ≡ 0)
-        → in_cell row col (box i m a b c d) ≡ 0
-    go true h e fa fb fc fd = let z : ◌≡◌ {A = ℕ} 0 1 = cc in absurd (omega arith)
-    go false h e fa fb fc fd =
-        let p = either_none (grade_in row col a) (either (grade_in row col b) (either (grade_in row col c) (grade_in row col d))) e in
-        let q = either_none (grade_in row col b) (either (grade_in row col c) (grade_in row col d)) p.1 in
-        let r = either_none (grade_in row col c) (grade_in row col d) q.1 in
-        omega (arith, ap one_if h, fa p.0, fb q.0, fc r.0, fd r.1)
-
-at_own_cell : (x : Spot) → one_if (at_cell x.row x.col x) ≡ 1
-at_own_cell x = grind (arith, nat_tests, one_if_tells)
+    grind (arith, ungraded_free row col a, ungraded_free row col b, ungraded_free row col c, ungraded_free row col d)
 
 shown_in_cell : (t : Tree) (x : Spot) → Shows t x → 1 ≤ in_cell x.row x.col t
-shown_in_cell t x h = omega (arith, at_own_cell x, shown_le (λ m. one_if (at_cell x.row x.col m)) t x h)
+shown_in_cell t x h = let own : one_if (at_cell x.row x.col x) ≡ 1 = grind (arith, nat_tests) in omega (arith, shown_le (λ m. one_if (at_cell x.row x.col m)) t x h)
+
+-- a cell has no grade and no mark, or the tree shows the mark with its grade
+in_the_cell : (row col : ℕ) (t : Tree) → ((grade_in row col t ≡ None) × (in_cell row col t ≡ 0)) ⊎ ((g : ℕ) × (grade_in row col t ≡ Some g) × Shows t record { row = row; col = col; grade = g } × (1 ≤ in_cell row col t))
+in_the_cell row col t =
+    elim (grade_in row col t) as (λ o. grade_in row col t ≡ o → ((o ≡ None) × (in_cell row col t ≡ 0)) ⊎ ((g : ℕ) × (o ≡ Some g) × Shows t record { row = row; col = col; grade = g } × (1 ≤ in_cell row col t))) [
+      | None ↦ λ e. inl (refl, ungraded_free row col t e)
+      | Some g ↦ λ e. let v = graded_shown row col t g e in inr (g, refl, v, shown_in_cell t record { row = row; col = col; grade = g } v)
+    ] refl
 
 -- a cell has the grade of the mark that the tree shows there
 pub shown_graded : (t : Tree) → Alone t → (x : Spot) → Shows t x → grade_in x.row x.col t ≡ Some x.grade
-shown_graded t alone x h = go (grade_in x.row x.col t) refl
-  where
-    go : (o : Option ℕ) → grade_in x.row x.col t ≡ o → o ≡ Some x.grade
-    go None e = absurd (omega (arith, ungraded_free x.row x.col t e, shown_in_cell t x h))
-    go (Some g) e =
-        ap (λ (y : Spot). Some y.grade)
-        (alone_lone t alone (record { row = x.row; col = x.col; grade = g }) x (graded_shown x.row x.col t g e) h refl refl)
+shown_graded t alone x h =
+    elim (in_the_cell x.row x.col t) [
+      | inl o ↦ absurd (omega (arith, o.1, shown_in_cell t x h))
+      | inr r ↦ r.1 ∙ ap (λ (y : Spot). Some y.grade) (alone_lone t alone record { row = x.row; col = x.col; grade = r.0 } x r.2 h refl refl)
+    ]
 
 -- a cell has a grade where it has a mark
 pub graded_in_cell : (t : Tree) → Alone t → (row col : ℕ) → one_if (is_some (grade_in row col t)) ≡ in_cell row col t
-graded_in_cell t alone row col = go (grade_in row col t) refl
-  where
-    go : (o : Option ℕ) → grade_in row col t ≡ o → one_if (is_some o) ≡ in_cell row col t
-    go None e = sym (ungraded_free row col t e)
-    go (Some g) e =
-        omega (arith, alone row col, shown_in_cell t (record { row = row; col = col; grade = g }) (graded_shown row col t g e))
+graded_in_cell t alone row col =
+    elim (in_the_cell row col t) [ inl o ↦ rw o.0 (sym o.1) | inr r ↦ rw r.1 (omega (arith, alone row col, r.3)) ]
+
+pub free_ungraded : (row col : ℕ) (t : Tree) → in_cell row col t ≡ 0 → grade_in row col t ≡ None
+free_ungraded row col t z = elim (in_the_cell row col t) [ inl o ↦ o.0 | inr r ↦ absurd (omega (arith, r.3)) ]
 
 -- a cell outside the square of a tree has no mark of it
 outside_free : (k : Kind) (s : Square) (t : Tree) → Ordered k s t → (row col : ℕ) → (Within s row col → ⊥) → in_cell row col t ≡ 0
-outside_free k s t h row col out = go (grade_in row col t) refl
-  where
-    go : (o : Option ℕ) → grade_in row col t ≡ o → in_cell row col t ≡ 0
-    go None e = ungraded_free row col t e
-    go (Some g) e =
-        absurd (out (shown_holds k s t h (record { row = row; col = col; grade = g }) (graded_shown row col t g e)).inside)
+outside_free k s t h row col out =
+    elim (in_the_cell row col t) [ inl o ↦ o.1 | inr r ↦ absurd (out (shown_holds k s t h record { row = row; col = col; grade = r.0 } r.2).inside) ]
 
 -- what stands in a cell other than the root's mark stands in the quadrant of the cell
 pub cell_in_quadrant : (k : Kind) (s : Square) (n : ℕ) (m : Spot) (a b c d : Tree)
@@ -158,23 +102,13 @@ pub cell_in_quadrant : (k : Kind) (s : Square) (n : ℕ) (m : Spot) (a b c d : T
     → (q : Quadrant)
     → Within (quadrant q s) row col
     → in_cell row col (box n m a b c d) ≡ in_cell row col (pick a b c d q)
-cell_in_quadrant k s n m a b c d h row col e q w = go q (λ p ne. free p (λ v. ne (ap index (one_quadrant s p q row col v w))))
+cell_in_quadrant k s n m a b c d h row col e q w = go q (λ p ne. outside_free k (quadrant p s) (pick a b c d p) (lawful_quadrant k s n m a b c d h p) row col (λ v. ne (one_quadrant s p q row col v w)))
   where
-    free : (p : Quadrant) → (Within (quadrant p s) row col → ⊥) → in_cell row col (pick a b c d p) ≡ 0
-    free p out = outside_free k (quadrant p s) (pick a b c d p) (lawful_quadrant k s n m a b c d h p) row col out
-
-    go : (q : Quadrant) → ((p : Quadrant) → (index p ≡ index q → ⊥) → in_cell row col (pick a b c d p) ≡ 0) → in_cell row col (box n m a b c d) ≡ in_cell row col (pick a b c d q)
-    go tl f = omega (arith, ap one_if e, f tr (λ z. omega arith), f bl (λ z. omega arith), f br (λ z. omega arith))
-    go tr f = omega (arith, ap one_if e, f tl (λ z. omega arith), f bl (λ z. omega arith), f br (λ z. omega arith))
-    go bl f = omega (arith, ap one_if e, f tl (λ z. omega arith), f tr (λ z. omega arith), f br (λ z. omega arith))
-    go br f = omega (arith, ap one_if e, f tl (λ z. omega arith), f tr (λ z. omega arith), f bl (λ z. omega arith))
-
-pub free_ungraded : (row col : ℕ) (t : Tree) → in_cell row col t ≡ 0 → grade_in row col t ≡ None
-free_ungraded row col t z = go (grade_in row col t) refl
-  where
-    go : (o : Option ℕ) → grade_in row col t ≡ o → o ≡ None
-    go None e = refl
-    go (Some g) e = absurd (omega (arith, shown_in_cell t (record { row = row; col = col; grade = g }) (graded_shown row col t g e)))
+    go : (q : Quadrant) → ((p : Quadrant) → (p ≡ q → ⊥) → in_cell row col (pick a b c d p) ≡ 0) → in_cell row col (box n m a b c d) ≡ in_cell row col (pick a b c d q)
+    go tl f = omega (arith, ap one_if e, f tr (λ z. cc), f bl (λ z. cc), f br (λ z. cc))
+    go tr f = omega (arith, ap one_if e, f tl (λ z. cc), f bl (λ z. cc), f br (λ z. cc))
+    go bl f = omega (arith, ap one_if e, f tl (λ z. cc), f tr (λ z. cc), f br (λ z. cc))
+    go br f = omega (arith, ap one_if e, f tl (λ z. cc), f tr (λ z. cc), f bl (λ z. cc))
 
 -- the grade in a cell once a tree has one mark more
 pub gained : (m : Spot) (t u : Tree)
@@ -187,17 +121,19 @@ gained m t u more alone row col = go (at_cell row col m) refl
     shows : (x : Spot) → 1 ≤ has x t + one_if (same x m) → Shows u x
     shows x h = has_shows x u (omega (arith, more (λ y. one_if (same x y))))
 
-    other : (o : Option ℕ) → grade_in row col t ≡ o → at_cell row col m ≡ false → grade_in row col u ≡ o
-    other None e z = free_ungraded row col u (omega (arith, more (λ y. one_if (at_cell row col y)), ungraded_free row col t e, ap one_if z))
-    other (Some g) e z =
-        let x : Spot = record { row = row; col = col; grade = g } in
-        shown_graded u alone x (shows x (omega (arith, shows_has x t (graded_shown row col t g e))))
+    other : at_cell row col m ≡ false → grade_in row col u ≡ grade_in row col t
+    other z =
+        elim (in_the_cell row col t) [
+          | inl o ↦ free_ungraded row col u (omega (arith, more (λ y. one_if (at_cell row col y)), o.1, ap one_if z)) ∙ sym o.0
+          | inr r ↦ let x : Spot = record { row = row; col = col; grade = r.0 } in
+              shown_graded u alone x (shows x (omega (arith, shows_has x t r.2))) ∙ sym r.1
+        ]
 
     go : (v : Bool) → at_cell row col m ≡ v → grade_in row col u ≡ cond v (Some m.grade) (grade_in row col t)
     go true e =
         let w = at_cell_is row col m e in
         rw (w.0, w.1) (shown_graded u alone m (shows m (omega (arith, has_self m m refl))))
-    go false e = other (grade_in row col t) refl e
+    go false e = other e
 
 -- and once it has one mark less
 pub lost : (m : Spot) (t u : Tree)

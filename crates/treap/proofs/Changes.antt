@@ -1,6 +1,7 @@
 -- How a change in one quadrant makes the change of the whole tree: entering, striking and renumbering go down one quadrant
 -- at a time.
-use Rattle.std.proofs.Common.{◌≡◌, ℕ, zero, suc, ◌+◌, ◌<◌, ◌⊎◌, sym, refl, ap, subst, inl, inr, arith}
+use Rattle.std.proofs.Common.{◌≡◌, ℕ, ◌+◌, ◌<◌, ◌⊎◌, sym, refl, ap, subst, inl, inr, arith}
+use native.Mathlib.Decide.{dec_lt}
 use Rattle.grade.specs.Kind.{Kind, Laws}
 use Rattle.treap.specs.Spots.{Spot, Outranks}
 use Rattle.treap.specs.Trees.{Quadrant, index, Square, Within, quadrant, Tree, none, box, pick, Shows, Holds, Hangs, Ordered}
@@ -13,11 +14,8 @@ use Rattle.treap.proofs.Hanging.{hung, hung_numbers, hung_marks, pick_marks, hun
 
 -- all that an ordered tree shows but its root's mark is outranked by that
 pub root_or_below : (k : Kind) → Laws k → (s : Square) (i : ℕ) (m : Spot) (a b c d : Tree) → Ordered k s (box i m a b c d) → (x : Spot) → Shows (box i m a b c d) x → (x ≡ m) ⊎ Outranks k m x
-root_or_below k L s i m a b c d h x g = go (split a b c d m x i g)
-  where
-    go : (x ≡ m) ⊎ ((q : Quadrant) × Shows (pick a b c d q) x) → (x ≡ m) ⊎ Outranks k m x
-    go (inl e) = inl e
-    go (inr v) = inr (root_over k L s i m a b c d h v.0 x v.1)
+root_or_below k L s i m a b c d h x g =
+    elim (split a b c d m x i g) [ inl e ↦ inl e | inr v ↦ inr (root_over k L s i m a b c d h v.0 x v.1) ]
 
 module _ (k : Kind) (L : Laws k) (s : Square) (n : ℕ) (x : Spot) (a b c d : Tree) (h : Ordered k s (box n x a b c d)) where
   abbrev t : Tree
@@ -30,20 +28,16 @@ module _ (k : Kind) (L : Laws k) (s : Square) (n : ℕ) (x : Spot) (a b c d : Tr
 
   -- a mark other than the root's is shown in the quadrant in which it lies
   pub shows_in_quadrant : (m : Spot) → Shows t m → (m ≡ x → ⊥) → (q : Quadrant) → Within (quadrant q s) m.row m.col → Shows (pick a b c d q) m
-  shows_in_quadrant m g ne q w = go (split a b c d x m n g)
-    where
-      go : (m ≡ x) ⊎ ((p : Quadrant) × Shows (pick a b c d p) m) → Shows (pick a b c d q) m
-      go (inl e) = absurd (ne e)
-      go (inr v) =
-          subst (λ (p : Quadrant). Shows (pick a b c d p) m)
-          (one_quadrant s v.0 q m.row m.col (shown_holds k (quadrant v.0 s) (pick a b c d v.0) (lawful_quadrant k s n x a b c d h v.0) m v.1).inside w) v.1
+  shows_in_quadrant m g ne q w =
+      elim (split a b c d x m n g) [
+        | inl e ↦ absurd (ne e)
+        | inr v ↦ subst (λ (p : Quadrant). Shows (pick a b c d p) m)
+            (one_quadrant s v.0 q m.row m.col (shown_holds k (quadrant v.0 s) (pick a b c d v.0) (lawful_quadrant k s n x a b c d h v.0) m v.1).inside w) v.1
+      ]
 
   pub level_above : (m : Spot) → Shows t m → (m ≡ x → ⊥) → 0 < s.level
-  level_above m g ne = go (split a b c d x m n g)
-    where
-      go : (m ≡ x) ⊎ ((p : Quadrant) × Shows (pick a b c d p) m) → 0 < s.level
-      go (inl e) = absurd (ne e)
-      go (inr v) = has_quadrants k s x (pick a b c d v.0) m (hangs k s n x a b c d h v.0) v.1
+  level_above m g ne =
+      elim (split a b c d x m n g) [ inl e ↦ absurd (ne e) | inr v ↦ has_quadrants k s x (pick a b c d v.0) m (hangs k s n x a b c d h v.0) v.1 ]
 
   -- striking a mark below the root
   pub cut_below : (m : Spot) (g : ℕ) (q : Quadrant) (u : Tree) → Shows (pick a b c d q) m → Loses k (quadrant q s) m g (pick a b c d q) u → Loses k s m g t (hung n x a b c d q u)
@@ -108,11 +102,8 @@ module _ (k : Kind) (L : Laws k) (s : Square) (n : ℕ) (x : Spot) (a b c d : Tr
     other_mark e = other_cell (ap (λ (z : Spot). z.row) e, ap (λ (z : Spot). z.col) e)
 
     pub room_below : 0 < s.level
-    room_below = go s.level refl
-      where
-        go : (l : ℕ) → s.level ≡ l → 0 < l
-        go zero e = absurd (other_cell (one_cell s m.row m.col x.row x.col hm.inside h.0.inside e))
-        go (suc l) e = omega arith
+    room_below =
+        elim (dec_lt 0 s.level) [ yes p ↦ p | no p ↦ absurd (other_cell (one_cell s m.row m.col x.row x.col hm.inside h.0.inside (omega arith))) ]
 
     -- what holds of the two marks, the better first
     record Sorted (up down : Spot) : Type 0 where
@@ -137,24 +128,17 @@ module _ (k : Kind) (L : Laws k) (s : Square) (n : ℕ) (x : Spot) (a b c d : Tr
     x_first : (Outranks k m x → ⊥) → Sorted x m
     x_first not-m =
         record {
-          over = go (tri k L m x);
+          over = elim (tri k L m x) [ inl o ↦ absurd (not-m o) | inr (inl e) ↦ absurd (other_mark e) | inr (inr o) ↦ o ];
           least = λ y v. v;
           up_holds = h.0;
           down_holds = hm;
           both = λ f. omega arith;
           down_free = λ q. omega (arith, free, pick_marks (λ y. one_if (at_cell m.row m.col y)) n x a b c d q);
         }
-      where
-        go : Outranks k m x ⊎ (m ≡ x) ⊎ Outranks k x m → Outranks k x m
-        go (inl o) = absurd (not-m o)
-        go (inr (inl e)) = absurd (other_mark e)
-        go (inr (inr o)) = o
 
     sorted : (up down : Spot) → Ranked k m x up down → Sorted up down
-    sorted up down (inl r) =
-        subst (λ (z : Spot). Sorted z down) (sym r.0) (subst (λ (z : Spot). Sorted m z) (sym r.1) (m_first r.2))
-    sorted up down (inr r) =
-        subst (λ (z : Spot). Sorted z down) (sym r.0) (subst (λ (z : Spot). Sorted x z) (sym r.1) (x_first r.2))
+    sorted up down (inl r) = rw (r.0, r.1) (m_first r.2)
+    sorted up down (inr r) = rw (r.0, r.1) (x_first r.2)
 
     module _ (up down : Spot) (r : Ranked k m x up down) where
       pub down_inside : Holds k s down

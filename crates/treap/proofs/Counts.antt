@@ -1,5 +1,6 @@
 -- Marks of a tree by sums: a mark is shown where it is counted.
-use Rattle.std.proofs.Common.{◌≡◌, ℕ, ◌+◌, ◌≤◌, Bool, true, false, ◌&&◌, eqb, ◌⊎◌, refl, ap, inl, inr, arith, eq-eqb, ne_eqb, eqb-true}
+use Rattle.std.proofs.Common.{◌≡◌, ℕ, ◌≤◌, Bool, true, false, ◌&&◌, eqb, refl, ap, arith, eq-eqb, ne_eqb}
+use Rattle.std.proofs.lemmas.Bool.Decides.{nat_tests}
 use Rattle.treap.specs.Spots.{Spot}
 use Rattle.treap.specs.Trees.{Tree, none, box, Shows}
 use Rattle.treap.specs.Sums.{one_if, mark_sum, at_cell, in_cell}
@@ -23,12 +24,10 @@ pub true_both : (a b : Bool) → a ≡ true → b ≡ true → a && b ≡ true
 true_both a b e f = rw (e, f)
 
 pub at_cell_is : (row col : ℕ) (m : Spot) → at_cell row col m ≡ true → (row ≡ m.row) × (col ≡ m.col)
-at_cell_is row col m e =
-    let h = both_true (eqb row m.row) (eqb col m.col) e in
-    (eqb-true row m.row h.0, eqb-true col m.col h.1)
+at_cell_is row col m e = (grind (arith, nat_tests), grind (arith, nat_tests))
 
 pub is_at_cell : (row col : ℕ) (m : Spot) → row ≡ m.row → col ≡ m.col → at_cell row col m ≡ true
-is_at_cell row col m e f = true_both _ _ (eq-eqb row m.row e) (eq-eqb col m.col f)
+is_at_cell row col m e f = grind (arith, nat_tests)
 
 -- x and y are one mark
 abbrev pub same : Spot → Spot → Bool
@@ -39,51 +38,21 @@ abbrev pub has : Spot → Tree → ℕ
 has x t = mark_sum (λ y. one_if (same x y)) t
 
 pub same_is : (x y : Spot) → same x y ≡ true → x ≡ y
-same_is x y e =
-    let h = both_true (at_cell x.row x.col y) (eqb x.grade y.grade) e in
-    let c = at_cell_is x.row x.col y h.0 in
-    spot_eq x y c.0 c.1 (eqb-true x.grade y.grade h.1)
+same_is x y e = spot_eq x y (grind (arith, nat_tests)) (grind (arith, nat_tests)) (grind (arith, nat_tests))
 
 pub is_same : (x y : Spot) → x ≡ y → same x y ≡ true
-is_same x y e =
-    true_both _ _ (is_at_cell x.row x.col y (ap (λ (z : Spot). z.row) e) (ap (λ (z : Spot). z.col) e))
-    (eq-eqb x.grade y.grade (ap (λ (z : Spot). z.grade) e))
+is_same x y e = grind (arith, nat_tests)
 
 pub has_self : (x y : Spot) → x ≡ y → one_if (same x y) ≡ 1
 has_self x y e = ap one_if (is_same x y e)
 
 pub shows_has : (x : Spot) (t : Tree) → Shows t x → 1 ≤ has x t
 shows_has x none h = absurd h
-shows_has x (box n m a b c d) (inl e) = omega (arith, has_self x m e)
-shows_has x (box n m a b c d) (inr (inl h)) = omega (arith, shows_has x a h)
-shows_has x (box n m a b c d) (inr (inr (inl h))) = omega (arith, shows_has x b h)
-shows_has x (box n m a b c d) (inr (inr (inr (inl h)))) = omega (arith, shows_has x c h)
-shows_has x (box n m a b c d) (inr (inr (inr (inr h)))) = omega (arith, shows_has x d h)
+shows_has x (box n m a b c d) h = grind (arith, has_self x m, shows_has x a, shows_has x b, shows_has x c, shows_has x d)
 
 pub has_shows : (x : Spot) (t : Tree) → 1 ≤ has x t → Shows t x
 has_shows x none h = absurd (omega arith)
-has_shows x (box n m a b c d) h =
-    go (same x m) (has x a) (has x b) (has x c) (has x d) (omega arith) (same_is x m) (has_shows x a) (has_shows x b) (has_shows x c) (has_shows x d)
-  where
-    go : (v : Bool) (p q r s : ℕ)
-        → 1 ≤ one_if v + p + q + r + s
-        → (v ≡ true → x ≡ m)
-        → (1 ≤ p → Shows a x)
-        → (1 ≤ q → Shows b x)
-        → (1 ≤ r → Shows c x)
-        → (1 ≤ s → Shows d x)
-        → Shows (box n m a b c d) x
-    go true p q r s h e fa fb fc fd = inl (e refl)
-    go false p q r s h e fa fb fc fd = part (some p q r s (omega arith))
-      where
-        some : (p q r s : ℕ) → 1 ≤ p + q + r + s → (1 ≤ p) ⊎ (1 ≤ q) ⊎ (1 ≤ r) ⊎ (1 ≤ s)
-        some p q r s h = grind arith
-
-        part : (1 ≤ p) ⊎ (1 ≤ q) ⊎ (1 ≤ r) ⊎ (1 ≤ s) → Shows (box n m a b c d) x
-        part (inl k) = inr (inl (fa k))
-        part (inr (inl k)) = inr (inr (inl (fb k)))
-        part (inr (inr (inl k))) = inr (inr (inr (inl (fc k))))
-        part (inr (inr (inr k))) = inr (inr (inr (inr (fd k))))
+has_shows x (box n m a b c d) h = grind (arith, same_is x m, has_shows x a, has_shows x b, has_shows x c, has_shows x d)
 
 pub mark_sum_le : (f g : Spot → ℕ) (t : Tree) → ((m : Spot) → f m ≤ g m) → mark_sum f t ≤ mark_sum g t
 mark_sum_le f g none h = omega arith
@@ -95,6 +64,4 @@ pub has_in_cell : (x : Spot) (t : Tree) → has x t ≤ in_cell x.row x.col t
 has_in_cell x t = mark_sum_le _ _ t (λ y. and_le (at_cell x.row x.col y) (eqb x.grade y.grade))
   where
     and_le : (a b : Bool) → one_if (a && b) ≤ one_if a
-    and_le true true = omega arith
-    and_le true false = omega arith
-    and_le false b = omega arith
+    and_le a b = grind arith

@@ -1,5 +1,5 @@
 -- A lawful tree and its ledger tell each other.
-use Rattle.std.proofs.Common.{◌≡◌, ℕ, zero, suc, ◌^◌, ◌<◌, List, [], ◌∷◌, Some, None, Option, sym, refl, ap, ◌∙◌, subst, inl, inr, arith}
+use Rattle.std.proofs.Common.{◌≡◌, ℕ, zero, suc, ◌^◌, ◌<◌, List, [], ◌∷◌, Some, Option, sym, refl, ap, ◌∙◌, subst, inl, inr, arith}
 use native.Mathlib.Decide.{dec_lt}
 use Rattle.grade.specs.Kind.{Kind}
 use Rattle.treap.specs.Spots.{Spot}
@@ -9,7 +9,6 @@ use Rattle.treap.specs.Sums.{Alone, grade_in, ledger_of}
 use Rattle.treap.specs.Plants.{best, share, plant_at, plant, Planted}
 use Rattle.treap.specs.Entries.{plan_square, LedgerTree, SameMarksSameTree}
 use Rattle.treap.proofs.Lists.{in_append, in_first, in_last}
-use Rattle.treap.proofs.Ranks.{spot_eq}
 use Rattle.treap.proofs.Shown.{shown_holds, one_tree_lem}
 use Rattle.treap.proofs.Plants.{some_tree_lem}
 use Rattle.treap.proofs.Cells.{alone_lone, graded_shown, shown_graded}
@@ -19,13 +18,10 @@ use Rattle.treap.proofs.Grids.{length_entries}
 in_entry : (row col : ℕ) (o : Option ℕ) (x : Spot)
     → In (entry row col o) x
     → (x.row ≡ row) × (x.col ≡ col) × (o ≡ Some x.grade)
-in_entry row col None x h = absurd h
-in_entry row col (Some g) x (inl e) = (ap (λ (y : Spot). y.row) e, ap (λ (y : Spot). y.col) e, ap (λ (y : Spot). Some y.grade) (sym e))
-in_entry row col (Some g) x (inr h) = absurd h
+in_entry row col o x h = grind arith
 
 entry_has : (x : Spot) (o : Option ℕ) → o ≡ Some x.grade → In (entry x.row x.col o) x
-entry_has x None e = let z : ◌≡◌ {A = ℕ} 0 1 = cc in absurd (omega arith)
-entry_has x (Some g) e = inl (spot_eq x (record { row = x.row; col = x.col; grade = g }) refl refl (cc))
+entry_has x o e = grind arith
 
 module _ (grade : ℕ → ℕ → Option ℕ) where
   in_row : (row n : ℕ) (x : Spot) → In (row_entries grade row n) x → (x.row ≡ row) × (grade x.row x.col ≡ Some x.grade)
@@ -43,29 +39,22 @@ module _ (grade : ℕ → ℕ → Option ℕ) where
 
   row_has : (n : ℕ) (x : Spot) → x.col < n → grade x.row x.col ≡ Some x.grade → In (row_entries grade x.row n) x
   row_has zero x c e = absurd (omega arith)
-  row_has (suc n) x c e = go (dec_lt x.col n) (λ b. row_has n x b e)
-    where
-      go : Dec (x.col < n) → (x.col < n → In (row_entries grade x.row n) x) → In (row_entries grade x.row (suc n)) x
-      go (yes b) rest = in_first (row_entries grade x.row n) (entry x.row n (grade x.row n)) x (rest b)
-      go (no b) rest =
-          let q : x.col ≡ n = omega arith in
-          in_last (row_entries grade x.row n) (entry x.row n (grade x.row n)) x
-          (subst (λ (i : ℕ). In (entry x.row i (grade x.row i)) x) q (entry_has x (grade x.row x.col) e))
+  row_has (suc n) x c e =
+      elim (dec_lt x.col n) [
+        | yes b ↦ in_first (row_entries grade x.row n) (entry x.row n (grade x.row n)) x (row_has n x b e)
+        | no b ↦ let q : x.col ≡ n = omega arith in
+            in_last (row_entries grade x.row n) (entry x.row n (grade x.row n)) x
+            (subst (λ (i : ℕ). In (entry x.row i (grade x.row i)) x) q (entry_has x (grade x.row x.col) e))
+      ]
 
-  rows_has : (w n : ℕ) (x : Spot)
-      → x.row < n
-      → x.col < w
-      → grade x.row x.col ≡ Some x.grade
-      → In (rows_entries grade w n) x
+  rows_has : (w n : ℕ) (x : Spot) → x.row < n → x.col < w → grade x.row x.col ≡ Some x.grade → In (rows_entries grade w n) x
   rows_has w zero x r c e = absurd (omega arith)
-  rows_has w (suc n) x r c e = go (dec_lt x.row n) (λ b. rows_has w n x b c e)
-    where
-      go : Dec (x.row < n) → (x.row < n → In (rows_entries grade w n) x) → In (rows_entries grade w (suc n)) x
-      go (yes b) rest = in_first (rows_entries grade w n) (row_entries grade n w) x (rest b)
-      go (no b) rest =
-          let q : x.row ≡ n = omega arith in
-          in_last (rows_entries grade w n) (row_entries grade n w) x
-          (subst (λ (i : ℕ). In (row_entries grade i w) x) q (row_has w x c e))
+  rows_has w (suc n) x r c e =
+      elim (dec_lt x.row n) [
+        | yes b ↦ in_first (rows_entries grade w n) (row_entries grade n w) x (rows_has w n x b c e)
+        | no b ↦ let q : x.row ≡ n = omega arith in
+            in_last (rows_entries grade w n) (row_entries grade n w) x (subst (λ (i : ℕ). In (row_entries grade i w) x) q (row_has w x c e))
+      ]
 
 unnumbered_plant : (k : Kind) (level : ℕ) (s : Square) (l : List Spot) → unnumbered (plant_at k level s l) ≡ plant_at k level s l
 unnumbered_plant k level s [] = refl
@@ -80,7 +69,7 @@ unnumbered_plant k (suc level) s (y ∷ l) =
     )
 
 -- what an ordered tree of a plan shows lies on the plan
-pub shown_on_plan : (k : Kind) (level : ℕ) (t : Tree)
+shown_on_plan : (k : Kind) (level : ℕ) (t : Tree)
     → Ordered k (plan_square level) t
     → (x : Spot)
     → Shows t x

@@ -1,10 +1,11 @@
 -- The sum over the cells of a grid, and how many marks a ledger has there.
-use Rattle.std.proofs.Common.{◌≡◌, ℕ, zero, suc, ◌+◌, ◌^◌, ◌<◌, Bool, true, ◌&&◌, eqb, ltb, length, is_some, Some, None, Option, sym, refl, ◌∙◌, inl, inr, arith, length-append}
+use Rattle.std.proofs.Common.{◌≡◌, ℕ, zero, suc, ◌+◌, ◌^◌, ◌<◌, Bool, true, ◌&&◌, eqb, ltb, length, is_some, Option, sym, refl, ◌∙◌, inl, arith, length-append}
 use Rattle.std.proofs.lemmas.Bool.Decides.{nat_tests}
 use Rattle.treap.specs.Spots.{Spot}
-use Rattle.treap.specs.Trees.{Tree, none, box, Shows, count}
+use Rattle.treap.specs.Trees.{Quadrant, tl, tr, bl, br, Tree, none, box, pick, Shows, count}
 use Rattle.treap.specs.Ledgers.{entry, row_entries, rows_entries, entries}
 use Rattle.treap.specs.Sums.{one_if, mark_sum, at_cell, in_cell, Alone, grade_in, ledger_of}
+use Rattle.treap.proofs.Shown.{below}
 use Rattle.treap.proofs.Cells.{mark_sum_add, one_if_tells, graded_in_cell}
 
 -- the sum of f over the numbers below n
@@ -62,18 +63,11 @@ one_cell m w n r c =
 mark_sum_ones : (f : Spot → ℕ) (t : Tree) → ((x : Spot) → Shows t x → f x ≡ 1) → mark_sum f t ≡ count t
 mark_sum_ones f none h = refl
 mark_sum_ones f (box i m a b c d) h =
-    omega (
-      arith,
-      h m (inl refl),
-      mark_sum_ones f a (λ x g. h x (inr (inl g))),
-      mark_sum_ones f b (λ x g. h x (inr (inr (inl g)))),
-      mark_sum_ones f c (λ x g. h x (inr (inr (inr (inl g))))),
-      mark_sum_ones f d (λ x g. h x (inr (inr (inr (inr g))))),
-    )
+    let each : (q : Quadrant) (x : Spot) → Shows (pick a b c d q) x → f x ≡ 1 = λ q x g. h x (below a b c d i m x q g) in
+    omega (arith, h m (inl refl), mark_sum_ones f a (each tl), mark_sum_ones f b (each tr), mark_sum_ones f c (each bl), mark_sum_ones f d (each br))
 
 length_entry : (row col : ℕ) (o : Option ℕ) → length (entry row col o) ≡ one_if (is_some o)
-length_entry row col None = refl
-length_entry row col (Some g) = refl
+length_entry row col o = grind arith
 
 length_row : (grade : ℕ → ℕ → Option ℕ) (row n : ℕ)
     → length (row_entries grade row n) ≡ sum_below (λ col. one_if (is_some (grade row col))) n

@@ -1,5 +1,5 @@
 -- A box one of whose quadrants gets another tree: its sums, and when it is ordered.
-use Rattle.std.proofs.Common.{◌≡◌, ℕ, ◌+◌, ◌^◌, ◌<◌, ◌≤◌, Bool, true, false, ◌⊎◌, refl, ap, inl, inr, arith}
+use Rattle.std.proofs.Common.{◌≡◌, ℕ, ◌+◌, ◌^◌, ◌<◌, ◌≤◌, ◌⊎◌, refl, ap, inl, arith}
 use Rattle.grade.specs.Kind.{Kind}
 use Rattle.treap.specs.Spots.{Spot, Outranks}
 use Rattle.treap.specs.Trees.{Quadrant, index, tl, tr, bl, br, Square, Within, quadrant, Tree, none, box, pick, Shows, Holds, Hangs, Ordered}
@@ -17,29 +17,21 @@ hung n m a b c d br u = box n m a b c u
 pub hung_numbers : (f : ℕ → ℕ) (n : ℕ) (m w : Spot) (a b c d : Tree) (q : Quadrant) (u : Tree)
     → number_sum f (hung n w a b c d q u) + number_sum f (pick a b c d q) ≡ number_sum f (box n m a b c d) + number_sum f u
 hung_numbers f n m w a b c d tl u = omega arith
-hung_numbers f n m w a b c d tr u = omega arith
-hung_numbers f n m w a b c d bl u = omega arith
-hung_numbers f n m w a b c d br u = omega arith
+hung_numbers f n m w a b c d q u = omega arith
 
 pub hung_marks : (f : Spot → ℕ) (n : ℕ) (m w : Spot) (a b c d : Tree) (q : Quadrant) (u : Tree)
     → (mark_sum f (hung n w a b c d q u) + mark_sum f (pick a b c d q)) + f m ≡ (mark_sum f (box n m a b c d) + mark_sum f u) + f w
 hung_marks f n m w a b c d tl u = omega arith
-hung_marks f n m w a b c d tr u = omega arith
-hung_marks f n m w a b c d bl u = omega arith
-hung_marks f n m w a b c d br u = omega arith
+hung_marks f n m w a b c d q u = omega arith
 
 -- a quadrant holds no more than its box
 pub pick_numbers : (f : ℕ → ℕ) (n : ℕ) (m : Spot) (a b c d : Tree) (q : Quadrant) → f n + number_sum f (pick a b c d q) ≤ number_sum f (box n m a b c d)
 pick_numbers f n m a b c d tl = omega arith
-pick_numbers f n m a b c d tr = omega arith
-pick_numbers f n m a b c d bl = omega arith
-pick_numbers f n m a b c d br = omega arith
+pick_numbers f n m a b c d q = omega arith
 
 pub pick_marks : (f : Spot → ℕ) (n : ℕ) (m : Spot) (a b c d : Tree) (q : Quadrant) → f m + mark_sum f (pick a b c d q) ≤ mark_sum f (box n m a b c d)
 pick_marks f n m a b c d tl = omega arith
-pick_marks f n m a b c d tr = omega arith
-pick_marks f n m a b c d bl = omega arith
-pick_marks f n m a b c d br = omega arith
+pick_marks f n m a b c d q = omega arith
 
 pub alone_quadrant : (n : ℕ) (m : Spot) (a b c d : Tree) → Alone (box n m a b c d) → (q : Quadrant) → Alone (pick a b c d q)
 alone_quadrant n m a b c d h q row col = omega (arith, h row col, pick_marks (λ y. one_if (at_cell row col y)) n m a b c d q)
@@ -77,11 +69,7 @@ one_cell s r c row col v w e = let z : 2 ^ s.level ≡ 1 = ap (λ (l : ℕ). 2 ^
 
 -- what is shown by a tree with one mark more
 pub shows_more : (m : Spot) (n : ℕ) (t u : Tree) → More m n t u → (x : Spot) → Shows u x → (x ≡ m) ⊎ Shows t x
-shows_more m n t u h x g = go (same x m) refl
-  where
-    go : (v : Bool) → same x m ≡ v → (x ≡ m) ⊎ Shows t x
-    go true e = inl (same_is x m e)
-    go false e = inr (has_shows x t (omega (arith, shows_has x u g, h.marks (λ y. one_if (same x y)), ap one_if e)))
+shows_more m n t u h x g = grind (arith, same_is x m, has_shows x t, shows_has x u g, h.marks (λ y. one_if (same x y)))
 
 pub shows_kept : (m : Spot) (n : ℕ) (t u : Tree) → More m n t u → (x : Spot) → Shows t x → Shows u x
 shows_kept m n t u h x g = has_shows x u (omega (arith, shows_has x t g, h.marks (λ y. one_if (same x y))))

@@ -11,12 +11,13 @@ pub mod Hanging
 pub mod Changes
 pub mod Bests
 pub mod Needed
+pub mod Parts
 pub mod Counted
-pub mod Walks
-pub mod Runs
-pub mod Kids
-pub mod Shuffles
 pub mod Find
+pub mod Walks
+pub mod Kids
+pub mod Runs
+pub mod Shuffles
 pub mod Held
 pub mod Layers
 pub mod Meanings

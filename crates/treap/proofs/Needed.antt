@@ -24,35 +24,6 @@ abbrev pub Numbered : List ℕ → Tree → Type 0
 Numbered S none = ⊥
 Numbered S (box i m a b c d) = In S i
 
--- each wanted box is of each set that justifies the list
-abbrev pub WantedIsNeeded : Type 0
-WantedIsNeeded =
-    (k : Kind)
-    → Laws k
-    → (s : Square) (t : Tree)
-    → Ordered k s t
-    → (w : Window) (n : ℕ) (l : List Spot)
-    → (S : List ℕ)
-    → Justifies k s t w n l S
-    → (r : Square) (u : Tree)
-    → Part s t r u
-    → Wanted k w n l r u
-    → Numbered S u
-
--- and the wanted boxes are enough
-abbrev pub WantedIsEnough : Type 0
-WantedIsEnough =
-    (k : Kind)
-    → Laws k
-    → (s : Square) (t : Tree)
-    → Ordered k s t
-    → (w : Window) (n : ℕ) (l : List Spot)
-    → 0 < n
-    → length l ≤ n
-    → (S : List ℕ)
-    → ((r : Square) (u : Tree) → Part s t r u → Wanted k w n l r u → Numbered S u)
-    → Justifies k s t w n l S
-
 -- the last listed does not outrank what reaches it
 pub not_both : (k : Kind) → Laws k → (l : List Spot) → (m : Spot) → Reaches k l m → LastOver k l m → ⊥
 not_both k L [] m h g = h
@@ -60,18 +31,13 @@ not_both k L (x ∷ []) m (inl e) g = irrefl_eq k x m (sym e) g
 not_both k L (x ∷ []) m (inr h) g = asym k L m x h g
 not_both k L (x ∷ y ∷ l) m h g = not_both k L (y ∷ l) m h g
 
-pub either : (k : Kind) → Laws k → (l : List Spot) → 0 < length l → (m : Spot) → Reaches k l m ⊎ LastOver k l m
+either : (k : Kind) → Laws k → (l : List Spot) → 0 < length l → (m : Spot) → Reaches k l m ⊎ LastOver k l m
 either k L [] p m = absurd (omega arith)
-either k L (x ∷ []) p m = go (tri k L m x)
-  where
-    go : Outranks k m x ⊎ (m ≡ x) ⊎ Outranks k x m → Reaches k (x ∷ []) m ⊎ LastOver k (x ∷ []) m
-    go (inl h) = inl (inr h)
-    go (inr (inl h)) = inl (inl h)
-    go (inr (inr h)) = inr h
+either k L (x ∷ []) p m = elim (tri k L m x) [ inl h ↦ inl (inr h) | inr (inl h) ↦ inl (inl h) | inr (inr h) ↦ inr h ]
 either k L (x ∷ y ∷ l) p m = either k L (y ∷ l) (omega arith) m
 
 -- what outranks a mark that reaches the last reaches it
-pub reaches_up : (k : Kind) → Laws k → (l : List Spot) → (m x : Spot) → Outranks k m x → Reaches k l x → Reaches k l m
+reaches_up : (k : Kind) → Laws k → (l : List Spot) → (m x : Spot) → Outranks k m x → Reaches k l x → Reaches k l m
 reaches_up k L [] m x o h = h
 reaches_up k L (y ∷ []) m x o (inl e) = inr (subst (λ (z : Spot). Outranks k m z) e o)
 reaches_up k L (y ∷ []) m x o (inr h) = inr (trans k L m x y o h)
@@ -86,54 +52,61 @@ touches_up s q w p h = record { row = h.row; col = h.col; within = within_quadra
 
 module _ (k : Kind) (L : Laws k) (w : Window) (n : ℕ) (l : List Spot) where
   -- a wanted box that is settled is of the set
-  settled_wanted : (S : List ℕ) (r : Square) (u : Tree) → Ordered k r u → Settled k w n l S r u → Wanted k w n l r u → Numbered S u
-  settled_wanted S r none h g v = v
-  settled_wanted S r (box i m a b c d) h g v = go (in? ℕ_discrete S i)
-    where
-      no_way : (length l < n → ⊥) × LastOver k l m → (length l < n) ⊎ Reaches k l m → ⊥
-      no_way e (inl lt) = e.0 lt
-      no_way e (inr reach) = not_both k L l m reach e.1
-
-      go : In S i ⊎ (In S i → ⊥) → In S i
-      go (inl p) = p
-      go (inr p) = absurd (no_way (g p v.0) v.1)
+  settled_wanted : (S : List ℕ) (r : Square) (u : Tree) → Settled k w n l S r u → Wanted k w n l r u → Numbered S u
+  settled_wanted S r none g v = v
+  settled_wanted S r (box i m a b c d) g v =
+      elim (in? ℕ_discrete S i) [
+        | inl p ↦ p
+        | inr p ↦ let e = g p v.0 in absurd (elim v.1 [ inl lt ↦ e.0 lt | inr reach ↦ not_both k L l m reach e.1 ])
+      ]
 
   -- the parent of a wanted box is wanted
-  pub wanted_up : (r : Square) (i : ℕ) (m : Spot) (a b c d : Tree) → Ordered k r (box i m a b c d) → (q : Quadrant) → (u : Tree) → Hangs k r m u → Ordered k (quadrant q r) u → Wanted k w n l (quadrant q r) u → Wanted k w n l r (box i m a b c d)
-  wanted_up r i m a b c d h q none g hu v = absurd v
-  wanted_up r i m a b c d h q (box j x a' b' c' d') g hu v = (touches_up r q w g.0 v.0, go v.1)
-    where
-      go : (length l < n) ⊎ Reaches k l x → (length l < n) ⊎ Reaches k l m
-      go (inl lt) = inl lt
-      go (inr reach) = inr (reaches_up k L l m x g.1 reach)
+  wanted_up : (r : Square) (i : ℕ) (m : Spot) (a b c d : Tree) (q : Quadrant) (u : Tree) → Hangs k r m u → Wanted k w n l (quadrant q r) u → Wanted k w n l r (box i m a b c d)
+  wanted_up r i m a b c d q none g v = absurd v
+  wanted_up r i m a b c d q (box j x a' b' c' d') g v =
+      (touches_up r q w g.0 v.0, elim v.1 [ inl lt ↦ inl lt | inr reach ↦ inr (reaches_up k L l m x g.1 reach) ])
 
   needed : {s : Square} {t : Tree} {r : Square} {u : Tree} → Part s t r u → Ordered k s t → (S : List ℕ) → Justifies k s t w n l S → Wanted k w n l r u → Numbered S u
-  needed {s} {t} whole h S j v = settled_wanted S s t h j.root v
+  needed {s} {t} whole h S j v = settled_wanted S s t j.root v
   needed {s} {t} (deeper {r = r} {i = i} {m = m} {a = a} {b = b} {c = c} {d = d} p q) h S j v =
-      let hr = part_lawful k p h in
-      let hu = lawful_quadrant k r i m a b c d hr q in
-      let up = needed p h S j (wanted_up r i m a b c d hr q (pick a b c d q) (hangs k r i m a b c d hr q) hu v) in
-      settled_wanted S (quadrant q r) (pick a b c d q) hu (j.under p up q) v
+      let up = needed p h S j (wanted_up r i m a b c d q (pick a b c d q) (hangs k r i m a b c d (part_lawful k p h) q) v) in
+      settled_wanted S (quadrant q r) (pick a b c d q) (j.under p up q) v
 
-  settle : 0 < n → length l ≤ n → (S : List ℕ) (r : Square) (u : Tree) → Ordered k r u → (Wanted k w n l r u → Numbered S u) → Settled k w n l S r u
-  settle pos le S r none h g = tt
-  settle pos le S r (box i m a b c d) h g = λ out touch. go out touch (dec_lt (length l) n)
-    where
-      last : (In S i → ⊥) → Touches r w → Reaches k l m ⊎ LastOver k l m → LastOver k l m
-      last out touch (inl reach) = absurd (out (g (touch, inr reach)))
-      last out touch (inr o) = o
+  settle : 0 < n → length l ≤ n → (S : List ℕ) (r : Square) (u : Tree) → (Wanted k w n l r u → Numbered S u) → Settled k w n l S r u
+  settle pos le S r none g = tt
+  settle pos le S r (box i m a b c d) g = λ out touch.
+      elim (dec_lt (length l) n) [
+        | yes lt ↦ absurd (out (g (touch, inl lt)))
+        | no ge ↦ (ge, elim (either k L l (omega arith) m) [ inl reach ↦ absurd (out (g (touch, inr reach))) | inr o ↦ o ])
+      ]
 
-      go : (In S i → ⊥) → Touches r w → Dec (length l < n) → (length l < n → ⊥) × LastOver k l m
-      go out touch (yes lt) = absurd (out (g (touch, inl lt)))
-      go out touch (no ge) = (ge, last out touch (either k L l (omega arith) m))
-
-pub wanted_is_needed : WantedIsNeeded
+-- each wanted box is of each set that justifies the list
+pub wanted_is_needed : (k : Kind)
+    → Laws k
+    → (s : Square) (t : Tree)
+    → Ordered k s t
+    → (w : Window) (n : ℕ) (l : List Spot)
+    → (S : List ℕ)
+    → Justifies k s t w n l S
+    → (r : Square) (u : Tree)
+    → Part s t r u
+    → Wanted k w n l r u
+    → Numbered S u
 wanted_is_needed k L s t h w n l S j r u p v = needed k L w n l p h S j v
 
-pub wanted_is_enough : WantedIsEnough
-wanted_is_enough k L s t h w n l pos le S g =
+-- and the wanted boxes are enough
+pub wanted_is_enough : (k : Kind)
+    → Laws k
+    → (s : Square) (t : Tree)
+    → (w : Window) (n : ℕ) (l : List Spot)
+    → 0 < n
+    → length l ≤ n
+    → (S : List ℕ)
+    → ((r : Square) (u : Tree) → Part s t r u → Wanted k w n l r u → Numbered S u)
+    → Justifies k s t w n l S
+wanted_is_enough k L s t w n l pos le S g =
     record {
-      root = settle k L w n l pos le S s t h (g s t whole);
+      root = settle k L w n l pos le S s t (g s t whole);
       under = λ {r} {i} {m} {a} {b} {c} {d} p _ q.
-          settle k L w n l pos le S (quadrant q r) (pick a b c d q) (part_lawful k (deeper p q) h) (g (quadrant q r) (pick a b c d q) (deeper p q));
+          settle k L w n l pos le S (quadrant q r) (pick a b c d q) (g (quadrant q r) (pick a b c d q) (deeper p q));
     }

@@ -16,16 +16,7 @@ times_append n (x ∷ l) r = omega (arith, times_append n l r)
 times_numbers : (n : ℕ) (t : Tree) → times n (numbers t) ≡ held n t
 times_numbers n none = refl
 times_numbers n (box i m a b c d) =
-    omega (
-      arith,
-      times_append n (numbers a) (numbers b ++ (numbers c ++ numbers d)),
-      times_append n (numbers b) (numbers c ++ numbers d),
-      times_append n (numbers c) (numbers d),
-      times_numbers n a,
-      times_numbers n b,
-      times_numbers n c,
-      times_numbers n d,
-    )
+    simp times_append (omega (arith, times_numbers n a, times_numbers n b, times_numbers n c, times_numbers n d))
 
 in_times : (n : ℕ) (l : List ℕ) → In l n → 1 ≤ times n l
 in_times n [] h = absurd h

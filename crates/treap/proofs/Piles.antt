@@ -9,62 +9,43 @@ use Rattle.treap.specs.Piles.{Layer, floor_at, shift_by, lay, piled, SameDraw}
 use Rattle.treap.proofs.Counted.{one_draw_lem}
 use Rattle.treap.proofs.Layers.{floor_shows_lem, shift_shows_lem}
 
--- the two have one square and the same marks, in ordered trees
-record Alike (k : Kind) (m n : Meaning) : Type 0 where
-  square : m.square ≡ n.square
-  ordered : Ordered k m.square m.tree
-  ordered' : Ordered k n.square n.tree
-  apart : Apart (numbers m.tree)
-  apart' : Apart (numbers n.tree)
-  to : (x : Spot) → Shows m.tree x → Shows n.tree x
-  fro : (x : Spot) → Shows n.tree x → Shows m.tree x
+-- in ordered trees, numbers apart
+abbrev Sound : Kind → Meaning → Type 0
+Sound k m = Ordered k m.square m.tree × Apart (numbers m.tree)
 
-lay_alike : (k : Kind) → Laws k → (m n : Meaning) (y : Layer) → Alike k m n → Alike k (lay k y m) (lay k y n)
-lay_alike k L m n (floor_at g) a =
-    let f = floor_shows_lem k L g m.square m.tree a.ordered in
-    let h = floor_shows_lem k L g n.square n.tree a.ordered' in
-    record {
-      square = a.square;
-      ordered = f.0;
-      ordered' = h.0;
-      apart = f.3 a.apart;
-      apart' = h.3 a.apart';
-      to = λ x v. let r = f.1 x v in h.2 x (a.to x r.0) r.1;
-      fro = λ x v. let r = h.1 x v in f.2 x (a.fro x r.0) r.1;
-    }
-lay_alike k L m n (shift_by rows cols) a =
-    let f = shift_shows_lem k rows cols m.square m.tree a.ordered in
-    let h = shift_shows_lem k rows cols n.square n.tree a.ordered' in
-    record {
-      square = ap (moved_square rows cols) a.square;
-      ordered = f.0;
-      ordered' = h.0;
-      apart = subst (λ (l : List ℕ). Apart l) (sym f.3) a.apart;
-      apart' = subst (λ (l : List ℕ). Apart l) (sym h.3) a.apart';
-      to = λ x v. let r = f.2 x v in
-          subst (λ (z : Spot). Shows (moved rows cols n.tree) z) (sym r.2) (h.1 r.0 (a.to r.0 r.1));
-      fro = λ x v. let r = h.2 x v in
-          subst (λ (z : Spot). Shows (moved rows cols m.tree) z) (sym r.2) (f.1 r.0 (a.fro r.0 r.1));
-    }
+module _ (k : Kind) (L : Laws k) where
+  lay_sound : (y : Layer) (m : Meaning) → Sound k m → Sound k (lay k y m)
+  lay_sound (floor_at g) m h = let f = floor_shows_lem k L g m.square m.tree h.0 in (f.0, f.3 h.1)
+  lay_sound (shift_by rows cols) m h =
+      let f = shift_shows_lem k rows cols m.square m.tree h.0 in (f.0, subst (λ (l : List ℕ). Apart l) (sym f.3) h.1)
 
-pile_alike : (k : Kind) → Laws k → (p : List Layer) (m n : Meaning) → Alike k m n → Alike k (piled k p m) (piled k p n)
-pile_alike k L [] m n a = a
-pile_alike k L (y ∷ p) m n a = pile_alike k L p (lay k y m) (lay k y n) (lay_alike k L m n y a)
+  -- a layer over more marks shows more marks
+  lay_into : (y : Layer) (m n : Meaning) → Sound k m → Sound k n → ((x : Spot) → Shows m.tree x → Shows n.tree x) → (x : Spot) → Shows (lay k y m).tree x → Shows (lay k y n).tree x
+  lay_into (floor_at g) m n hm hn to x v =
+      let r = (floor_shows_lem k L g m.square m.tree hm.0).1 x v in
+      (floor_shows_lem k L g n.square n.tree hn.0).2 x (to x r.0) r.1
+  lay_into (shift_by rows cols) m n hm hn to x v =
+      let r = (shift_shows_lem k rows cols m.square m.tree hm.0).2 x v in
+      subst (λ (z : Spot). Shows (moved rows cols n.tree) z) (sym r.2) ((shift_shows_lem k rows cols n.square n.tree hn.0).1 r.0 (to r.0 r.1))
+
+  lay_square : (y : Layer) (m n : Meaning) → m.square ≡ n.square → (lay k y m).square ≡ (lay k y n).square
+  lay_square (floor_at g) m n e = e
+  lay_square (shift_by rows cols) m n e = ap (moved_square rows cols) e
 
 pub same_draw_lem : SameDraw
-same_draw_lem k L m n hm hn e to fro p w asked pos l r o q dm dn =
-    let a =
-    pile_alike k L p m n
-    record {
-      square = e;
-      ordered = hm.ordered;
-      ordered' = hn.ordered;
-      apart = hm.apart;
-      apart' = hn.apart;
-      to = to;
-      fro = fro;
-    } in
-    let back = sym a.square in
-    one_draw_lem k L (piled k p m).square (piled k p m).tree (piled k p n).tree a.ordered
-    (subst (λ (s : Square). Ordered k s (piled k p n).tree) back a.ordered') a.apart a.apart' a.to a.fro w asked pos l r o q dm
-    (subst (λ (s : Square). Draws k s (piled k p n).tree w asked r q) back dn)
+same_draw_lem k L m n hm hn e to fro p w asked pos l r o q = go p m n (hm.ordered, hm.apart) (hn.ordered, hn.apart) e to fro
+  where
+    go : (p : List Layer) (m n : Meaning)
+        → Sound k m
+        → Sound k n
+        → m.square ≡ n.square
+        → ((x : Spot) → Shows m.tree x → Shows n.tree x)
+        → ((x : Spot) → Shows n.tree x → Shows m.tree x)
+        → Draws k (piled k p m).square (piled k p m).tree w asked l o
+        → Draws k (piled k p n).square (piled k p n).tree w asked r q
+        → (l ≡ r) × (o ≡ q)
+    go [] m n hm hn e to fro dm dn =
+        one_draw_lem k L m.square m.tree n.tree hm.0 (subst (λ (s : Square). Ordered k s n.tree) (sym e) hn.0) hm.1 hn.1 to fro w asked pos l r o q dm
+        (subst (λ (s : Square). Draws k s n.tree w asked r q) (sym e) dn)
+    go (y ∷ p) m n hm hn e to fro dm dn =
+        go p (lay k y m) (lay k y n) (lay_sound k L y m hm) (lay_sound k L y n hn) (lay_square k L y m n e) (lay_into k L y m n hm hn to) (lay_into k L y n m hn hm fro) dm dn

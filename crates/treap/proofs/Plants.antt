@@ -1,8 +1,8 @@
 -- The tree worked out from marks is lawful and shows them.
-use Rattle.std.proofs.Common.{◌≡◌, ℕ, zero, suc, pred, ◌+◌, ◌^◌, ◌<◌, Bool, true, false, cond, ◌&&◌, ◌⊎◌, List, [], ◌∷◌, Decides, filter, sym, refl, ap, ◌∙◌, subst, inl, inr, arith}
+use Rattle.std.proofs.Common.{◌≡◌, ℕ, zero, suc, pred, ◌+◌, ◌^◌, ◌<◌, Bool, true, cond, ◌&&◌, ◌⊎◌, List, [], ◌∷◌, Decides, filter, sym, refl, subst, inl, inr, arith}
 use native.Mathlib.Decide.{dec_lt}
 use Rattle.std.proofs.lemmas.Bool.Decides.{nat_tests}
-use Rattle.std.proofs.lemmas.Bool.{and_parts, and_from, both_ways, false≢true}
+use Rattle.std.proofs.lemmas.Bool.{and_parts, and_from}
 use Rattle.grade.specs.Kind.{Kind, Laws}
 use Rattle.treap.specs.Spots.{Spot, Outranks}
 use Rattle.treap.specs.Trees.{
@@ -24,43 +24,21 @@ use Rattle.treap.specs.Trees.{
   In,
 }
 use Rattle.treap.specs.Plants.{outranks, in_square, best, share, plant_at, OneACell, Planted, SomeTree}
+use Rattle.treap.proofs.Lists.{by_quadrant}
+use Rattle.treap.proofs.Hanging.{hang, one_cell}
 use Rattle.treap.proofs.Ranks.{trans, tri, decides_outranks}
 use Rattle.treap.proofs.Shown.{below, split, halves}
 
 pub decides_in_square : (s : Square) (m : Spot) → Decides (in_square s m) (Within s m.row m.col)
-decides_in_square s m = (
-  λ e.
-      record {
-        not_above = grind (arith, nat_tests);
-        not_below = grind (arith, nat_tests);
-        not_left = grind (arith, nat_tests);
-        not_right = grind (arith, nat_tests);
-      },
-  λ w. grind (arith, nat_tests, w.not_above, w.not_below, w.not_left, w.not_right),
-)
+decides_in_square s m = (λ e. grind (arith, nat_tests), λ w. grind (arith, nat_tests, w.not_above, w.not_below, w.not_left, w.not_right))
 
-kept_in : (p : Spot → Bool) (l : List Spot) (x : Spot) → In (filter p l) x → In l x × (p x ≡ true)
+pub kept_in : (p : Spot → Bool) (l : List Spot) (x : Spot) → In (filter p l) x → In l x × (p x ≡ true)
 kept_in p [] x h = absurd h
-kept_in p (y ∷ l) x h = go (p y) refl (kept_in p l x) h
-  where
-    go : (b : Bool)
-        → p y ≡ b
-        → (In (filter p l) x → In l x × (p x ≡ true))
-        → In (cond b (y ∷ filter p l) (filter p l)) x
-        → In (y ∷ l) x × (p x ≡ true)
-    go true e rest (inl q) = (inl q, ap p q ∙ e)
-    go true e rest (inr q) = (inr (rest q).0, (rest q).1)
-    go false e rest q = (inr (rest q).0, (rest q).1)
+kept_in p (y ∷ l) x h = grind (arith, kept_in p l x)
 
-kept_has : (p : Spot → Bool) (l : List Spot) (x : Spot) → In l x → p x ≡ true → In (filter p l) x
+pub kept_has : (p : Spot → Bool) (l : List Spot) (x : Spot) → In l x → p x ≡ true → In (filter p l) x
 kept_has p [] x h e = h
-kept_has p (y ∷ l) x h e = go (p y) refl h (λ g. kept_has p l x g e)
-  where
-    go : (b : Bool) → p y ≡ b → In (y ∷ l) x → (In l x → In (filter p l) x) → In (cond b (y ∷ filter p l) (filter p l)) x
-    go true f (inl q) rest = inl q
-    go true f (inr q) rest = inr (rest q)
-    go false f (inl q) rest = absurd (both_ways (p y) f (sym (ap p q) ∙ e))
-    go false f (inr q) rest = rest q
+kept_has p (y ∷ l) x h e = grind (arith, kept_has p l x)
 
 -- a share has the marks of l that m outranks and that lie in the square
 share_in : (k : Kind) (m : Spot) (s : Square) (l : List Spot) (x : Spot)
@@ -91,57 +69,31 @@ leads_trans k L m n x (inr o) (inr g) = inr (trans k L m n x o g)
 
 -- the better of two marks
 better_leads : (k : Kind) → Laws k → (m x : Spot) → Leads k (cond (outranks k x m) x m) m × Leads k (cond (outranks k x m) x m) x
-better_leads k L m x = go (outranks k x m) (decides_outranks k x m) (tri k L x m)
-  where
-    go : (b : Bool)
-        → Decides b (Outranks k x m)
-        → Outranks k x m ⊎ (x ≡ m) ⊎ Outranks k m x
-        → Leads k (cond b x m) m × Leads k (cond b x m) x
-    go true d t = (inr (d.0 refl), inl refl)
-    go false d (inl o) = absurd (false≢true (d.1 o))
-    go false d (inr o) = (inl refl, o)
+better_leads k L m x = grind (arith, decides_outranks k x m, tri k L x m)
 
-best_leads : (k : Kind) → Laws k → (m : Spot) (l : List Spot) (x : Spot) → In (m ∷ l) x → Leads k (best k m l) x
-best_leads k L m [] x (inl e) = inl e
-best_leads k L m [] x (inr h) = absurd h
-best_leads k L m (y ∷ l) x h = go h (best_leads k L n l)
-  where
-    n : Spot
-    n = cond (outranks k y m) y m
+pub best_leads : (k : Kind) → Laws k → (m : Spot) (l : List Spot) (x : Spot) → In (m ∷ l) x → Leads k (best k m l) x
+best_leads k L m [] x h = grind (arith)
+best_leads k L m (y ∷ l) x h =
+    let n : Spot = cond (outranks k y m) y m in
+    let first = λ (z : Spot). leads_trans k L (best k n l) n z (best_leads k L n l n (inl refl)) in
+    elim h [
+      | inl e ↦ subst (λ (z : Spot). Leads k (best k n l) z) (sym e) (first m (better_leads k L m y).0)
+      | inr (inl e) ↦ subst (λ (z : Spot). Leads k (best k n l) z) (sym e) (first y (better_leads k L m y).1)
+      | inr (inr g) ↦ best_leads k L n l x (inr g)
+    ]
 
-    go : In (m ∷ y ∷ l) x → ((z : Spot) → In (n ∷ l) z → Leads k (best k n l) z) → Leads k (best k n l) x
-    go (inl e) rest = leads_trans k L (best k n l) n x (rest n (inl refl)) (subst (λ (z : Spot). Leads k n z) (sym e) (better_leads k L m y).0)
-    go (inr (inl e)) rest = leads_trans k L (best k n l) n x (rest n (inl refl)) (subst (λ (z : Spot). Leads k n z) (sym e) (better_leads k L m y).1)
-    go (inr (inr g)) rest = rest x (inr g)
-
-best_in : (k : Kind) (m : Spot) (l : List Spot) → In (m ∷ l) (best k m l)
+pub best_in : (k : Kind) (m : Spot) (l : List Spot) → In (m ∷ l) (best k m l)
 best_in k m [] = inl refl
-best_in k m (y ∷ l) = go (outranks k y m) (best_in k (cond (outranks k y m) y m) l)
-  where
-    go : (b : Bool) → In (cond b y m ∷ l) (best k (cond b y m) l) → In (m ∷ y ∷ l) (best k (cond b y m) l)
-    go true h = inr h
-    go false (inl e) = inl e
-    go false (inr h) = inr (inr h)
+best_in k m (y ∷ l) = grind (arith, best_in k (cond (outranks k y m) y m) l)
 
 -- each cell of a square that has quadrants lies in one
 some_quadrant : (s : Square) (row col : ℕ) → 0 < s.level → Within s row col → (q : Quadrant) × Within (quadrant q s) row col
-some_quadrant s row col pos w = go (dec_lt row (s.top + 2 ^ pred s.level)) (dec_lt col (s.left + 2 ^ pred s.level))
-  where
-    e : 2 ^ s.level ≡ 2 ^ pred s.level + 2 ^ pred s.level
-    e = halves s.level pos
-
-    go : Dec (row < s.top + 2 ^ pred s.level)
-        → Dec (col < s.left + 2 ^ pred s.level)
-        → (q : Quadrant) × Within (quadrant q s) row col
-    go (yes a) (yes b) = (tl, record { not_above = omega arith; not_below = omega arith; not_left = omega arith; not_right = omega arith })
-    go (yes a) (no b) = (tr, record { not_above = omega arith; not_below = omega arith; not_left = omega arith; not_right = omega (arith, e) })
-    go (no a) (yes b) = (bl, record { not_above = omega arith; not_below = omega (arith, e); not_left = omega arith; not_right = omega arith })
-    go (no a) (no b) = (br, record { not_above = omega arith; not_below = omega (arith, e); not_left = omega arith; not_right = omega (arith, e) })
-
--- a tree of marks that m outranks hangs under m
-hang : (k : Kind) (s : Square) (m : Spot) (t : Tree) → 0 < s.level → ((x : Spot) → Shows t x → Outranks k m x) → Hangs k s m t
-hang k s m none pos f = tt
-hang k s m (box i x a b c d) pos f = (pos, f x (inl refl))
+some_quadrant s row col pos w =
+    let e = halves s.level pos in
+    elim (dec_lt row (s.top + 2 ^ pred s.level)) [
+      | yes a ↦ elim (dec_lt col (s.left + 2 ^ pred s.level)) [ yes b ↦ (tl, search arith) | no b ↦ (tr, search arith) ]
+      | no a ↦ elim (dec_lt col (s.left + 2 ^ pred s.level)) [ yes b ↦ (bl, search arith) | no b ↦ (br, search arith) ]
+    ]
 
 -- m is the best of the marks l of the square s
 module _ (k : Kind) (s : Square) (l : List Spot) (holds : (x : Spot) → In l x → Holds k s x) (m : Spot) (has : In l m) (top : (x : Spot) → In l x → Leads k m x) where
@@ -160,38 +112,21 @@ module _ (k : Kind) (s : Square) (l : List Spot) (holds : (x : Spot) → In l x 
       }
     where
       part : (q : Quadrant) → Part (pick a b c d q) q
-      part tl = pa
-      part tr = pb
-      part bl = pc
-      part br = pd
+      part = by_quadrant _ pa pb pc pd
 
       hung : (q : Quadrant) → Hangs k s m (pick a b c d q)
       hung q = hang k s m (pick a b c d q) pos (λ x h. (share_in k m (quadrant q s) l x ((part q).listed x h)).1)
 
-      lower : (x : Spot)
-          → In l x
-          → Outranks k m x
-          → ((q : Quadrant) × Within (quadrant q s) x.row x.col)
-          → Shows (box 0 m a b c d) x
+      lower : (x : Spot) → In l x → Outranks k m x → ((q : Quadrant) × Within (quadrant q s) x.row x.col) → Shows (box 0 m a b c d) x
       lower x h o w = below a b c d 0 m x w.0 ((part w.0).shown x (share_has k m (quadrant w.0 s) l x h o w.1))
 
   single : s.level ≡ 0 → OneACell l → Planted k s l (box 0 m none none none none)
   single e one =
-      record { ordered = (holds m has, (tt, tt, tt, tt), (tt, tt, tt, tt)); listed = listed; shown = λ x h. inl (only x h) }
-    where
-      listed : (x : Spot) → Shows (box 0 m none none none none) x → In l x
-      listed x (inl h) = subst (λ (y : Spot). In l y) (sym h) has
-      listed x (inr (inl h)) = absurd h
-      listed x (inr (inr (inl h))) = absurd h
-      listed x (inr (inr (inr (inl h)))) = absurd h
-      listed x (inr (inr (inr (inr h)))) = absurd h
-
-      only : (x : Spot) → In l x → x ≡ m
-      only x h =
-          let p = (holds x h).inside in
-          let q = (holds m has).inside in
-          let z : 2 ^ s.level ≡ 1 = ap (λ (v : ℕ). 2 ^ v) e in
-          one x m h has (omega arith) (omega arith)
+      record {
+        ordered = (holds m has, (tt, tt, tt, tt), (tt, tt, tt, tt));
+        listed = λ x h. grind (arith);
+        shown = λ x h. let c = one_cell s x.row x.col m.row m.col (holds x h).inside (holds m has).inside e in inl (one x m h has c.0 c.1);
+      }
 
 planted : (k : Kind)
     → Laws k

@@ -1,102 +1,84 @@
 -- The order of the waiting boxes does not matter: what a heap does to them keeps the walk.
-use Rattle.std.proofs.Common.{◌≡◌, ℕ, zero, suc, ◌<◌, ◌⊎◌, List, [], ◌∷◌, length, get_or, sym, refl, ap, ◌∙◌, subst, inl, inr, arith}
-use native.Mathlib.Decide.{ℕ_discrete}
+use Rattle.std.proofs.Common.{◌≡◌, ℕ, ◌≤◌, List, [], ◌∷◌, sym, refl, ap, subst, inl, inr, arith}
 use Rattle.std.specs.List.Sorted.{IsPermutation}
-use Rattle.std.specs.List.{swap}
-use Rattle.std.specs.List as holes
-use Rattle.std.proofs.lemmas.List.Edits.{Swapped, swapped_from_swap, length-swap}
-use Rattle.std.proofs.lemmas.List.Sorted.{IsPermutation-keeps}
+use Rattle.std.specs.List.{AllByRecursion, sum_by}
+use Rattle.std.proofs.lemmas.List.Elements.{recursion_from_All, All-from_recursion}
+use Rattle.std.proofs.lemmas.List.Sorted.{All-permutation, IsPermutation-sym, sum_by-IsPermutation}
+use Rattle.std.proofs.lemmas.List.Sums.{sum_by-cons}
 use Rattle.grade.specs.Kind.{Kind}
-use Rattle.treap.specs.Trees.{Square, Tree, In}
+use Rattle.treap.specs.Spots.{Spot}
+use Rattle.treap.specs.Trees.{Square, Within, Tree, In}
 use Rattle.treap.specs.Draws.{Window}
-use Rattle.treap.specs.Searches.{Node, Share, Spread}
+use Rattle.treap.specs.Plants.{in_square}
+use Rattle.treap.specs.Searches.{Node, Spread}
+use Rattle.treap.specs.Sums.{one_if}
+use Rattle.treap.proofs.Plants.{decides_in_square}
 use Rattle.treap.proofs.Walks.{Walk}
-use Rattle.treap.proofs.Runs.{walk_same, share_sym}
 
-in_at : {A : Type 0} (l : List A) (i : ℕ) (d : A) → i < length l → In l (get_or l i d)
-in_at [] i d h = omega arith
-in_at (x ∷ l) zero d h = inl refl
-in_at (x ∷ l) (suc i) d h = inr (in_at l i d (omega arith))
+-- the order in which the boxes wait does not matter
+pub walk_same : (k : Kind) (s : Square) (t : Tree) (w : Window) (done wait next : List Node) → ((e : Node) → In wait e → In next e) → ((e : Node) → In next e → In wait e) → Spread next → Walk k s t w done wait → Walk k s t w done next
+walk_same k s t w done wait next to fro sp h =
+    record {
+      done_parts = h.done_parts;
+      wait_parts = λ e p. h.wait_parts e (fro e p);
+      spread = sp;
+      fell = h.fell;
+      above = λ e f p q. h.above e f p (fro f q);
+      cover = λ e p v. elim (h.cover e p v) [ inl x ↦ inl x | inr x ↦ inr (x.0, to x.0 x.1, x.2) ];
+    }
 
-at_in : {A : Type 0} (l : List A) (x d : A) → In l x → (i : ℕ) × (i < length l) × (get_or l i d ≡ x)
-at_in [] x d h = absurd h
-at_in (y ∷ l) x d (inl e) = (0, omega arith, sym e)
-at_in (y ∷ l) x d (inr h) = let r = at_in l x d h in let lt = r.1 in (suc r.0, omega arith, r.2)
+each_from : {A : Type 0} (P : A → Type 0) (l : List A) → AllByRecursion P l → (x : A) → In l x → P x
+each_from P [] h x p = absurd p
+each_from P (y ∷ l) h x (inl e) = subst P (sym e) h.0
+each_from P (y ∷ l) h x (inr p) = each_from P l h.1 x p
 
--- no two boxes at different places share a cell
-abbrev SpreadAt : List Node → Node → Type 0
-SpreadAt l d = (i j : ℕ) → i < length l → j < length l → (i ≡ j → ⊥) → Share (get_or l i d).square (get_or l j d).square → ⊥
+from_each : {A : Type 0} (P : A → Type 0) (l : List A) → ((x : A) → In l x → P x) → AllByRecursion P l
+from_each P [] h = tt
+from_each P (y ∷ l) h = (h y (inl refl), from_each P l (λ x p. h x (inr p)))
 
-at_from_spread : (l : List Node) (d : Node) → Spread l → SpreadAt l d
-at_from_spread [] d h i j p q ne v = omega arith
-at_from_spread (x ∷ l) d h zero zero p q ne v = ne refl
-at_from_spread (x ∷ l) d h zero (suc j) p q ne v = h.0 (get_or l j d) (in_at l j d (omega arith)) v
-at_from_spread (x ∷ l) d h (suc i) zero p q ne v = h.0 (get_or l i d) (in_at l i d (omega arith)) (share_sym _ _ v)
-at_from_spread (x ∷ l) d h (suc i) (suc j) p q ne v = at_from_spread l d h.1 i j (omega arith) (omega arith) (λ e. ne (ap suc e)) v
+in_shuffled : {A : Type 0} (l r : List A) → IsPermutation l r → (x : A) → In r x → In l x
+in_shuffled l r s =
+    each_from (In l) r (recursion_from_All (In l) r (All-permutation (In l) l r s (All-from_recursion (In l) l (from_each (In l) l (λ x p. p)))))
 
-spread_from_at : (l : List Node) (d : Node) → SpreadAt l d → Spread l
-spread_from_at [] d h = tt
-spread_from_at (x ∷ l) d h = (
-  λ f p v. let r = at_in l f d p in let lt = r.1 in
-      h 0 (suc r.0) (omega arith) (omega arith) (omega arith) (subst (λ (y : Node). Share x.square y.square) (sym r.2) v),
-  spread_from_at l d (λ i j p q ne. h (suc i) (suc j) (omega arith) (omega arith) (omega arith)),
+-- how many of the boxes have the cell in their square
+module _ (row col : ℕ) where
+  abbrev cell : Spot
+  cell = record { row = row; col = col; grade = 0 }
+
+  abbrev over : Node → ℕ
+  over e = one_if (in_square e.square cell)
+
+  over_is : (e : Node) → Within e.square row col → over e ≡ 1
+  over_is e h = ap one_if ((decides_in_square e.square cell).1 h)
+
+  over_none : (e : Node) → (Within e.square row col → ⊥) → over e ≡ 0
+  over_none e h = grind (arith, (decides_in_square e.square cell).0)
+
+  crowd_has : (l : List Node) (e : Node) → In l e → Within e.square row col → 1 ≤ sum_by over l
+  crowd_has [] e p h = absurd p
+  crowd_has (y ∷ l) e (inl x) h = omega (arith, sum_by-cons over y l, over_is y (subst (λ (z : Node). Within z.square row col) x h))
+  crowd_has (y ∷ l) e (inr p) h = omega (arith, sum_by-cons over y l, crowd_has l e p h)
+
+  crowd_none : (l : List Node) → ((e : Node) → In l e → Within e.square row col → ⊥) → sum_by over l ≡ 0
+  crowd_none [] f = refl
+  crowd_none (y ∷ l) f = omega (arith, sum_by-cons over y l, over_none y (f y (inl refl)), crowd_none l (λ e p. f e (inr p)))
+
+  crowd_spread : (l : List Node) → Spread l → sum_by over l ≤ 1
+  crowd_spread [] h = omega arith
+  crowd_spread (y ∷ l) h =
+      let alone = λ (v : Within y.square row col). crowd_none l (λ g p w. h.0 g p record { row = row; col = col; first = v; second = w }) in
+      grind (arith, sum_by-cons over y l, crowd_spread l h.1, alone, (decides_in_square y.square cell).0)
+
+spread_from_crowd : (l : List Node) → ((row col : ℕ) → sum_by (over row col) l ≤ 1) → Spread l
+spread_from_crowd [] h = tt
+spread_from_crowd (y ∷ l) h = (
+  λ e p s. omega (arith, h s.row s.col, sum_by-cons (over s.row s.col) y l, over_is s.row s.col y s.first, crowd_has s.row s.col l e p s.second),
+  spread_from_crowd l (λ row col. omega (arith, h row col, sum_by-cons (over row col) y l)),
 )
 
-module _ (xs ys : List Node) (a b : ℕ) (d : Node) (la : a < length xs) (lb : b < length xs) (len : length ys ≡ length xs) (sw : Swapped (λ i. get_or xs i d) (λ i. get_or ys i d) a b) where
-  abbrev Source : ℕ → ℕ → Type 0
-  Source m k = ((m ≡ a) × (k ≡ b)) ⊎ ((m ≡ b) × (k ≡ a)) ⊎ ((m ≡ k) × (m ≡ a → ⊥) × (m ≡ b → ⊥))
-
-  source : (m : ℕ) → (k : ℕ) × Source m k × (get_or ys m d ≡ get_or xs k d) × (get_or xs m d ≡ get_or ys k d)
-  source m = go (ℕ_discrete m a) (ℕ_discrete m b)
-    where
-      go : Dec (m ≡ a) → Dec (m ≡ b) → (k : ℕ) × Source m k × (get_or ys m d ≡ get_or xs k d) × (get_or xs m d ≡ get_or ys k d)
-      go (yes e) _ = (b, inl (e, refl), ap (λ (i : ℕ). get_or ys i d) e ∙ sw.0, ap (λ (i : ℕ). get_or xs i d) e ∙ sym sw.1)
-      go (no e) (yes f) = (a, inr (inl (f, refl)), ap (λ (i : ℕ). get_or ys i d) f ∙ sw.1, ap (λ (i : ℕ). get_or xs i d) f ∙ sym sw.0)
-      go (no e) (no f) = (m, inr (inr (refl, e, f)), sw.2 m e f, sym (sw.2 m e f))
-
-  source_below : (m k : ℕ) → Source m k → m < length xs → k < length xs
-  source_below m k s lt = omega arith
-
-  source_apart : (m n k l : ℕ) → Source m k → Source n l → (m ≡ n → ⊥) → k ≡ l → ⊥
-  source_apart m n k l s t ne e = omega arith
-
-  to_swapped : (e : Node) → In xs e → In ys e
-  to_swapped e p =
-      let r = at_in xs e d p in
-      let s = source r.0 in
-      let lt : s.0 < length ys = omega (arith, source_below r.0 s.0 s.1 r.1, len) in
-      subst (λ (y : Node). In ys y) (sym s.3 ∙ r.2) (in_at ys s.0 d lt)
-
-  fro_swapped : (e : Node) → In ys e → In xs e
-  fro_swapped e p =
-      let r = at_in ys e d p in
-      let s = source r.0 in
-      let lt : r.0 < length xs = omega (arith, r.1, len) in
-      subst (λ (y : Node). In xs y) (sym s.2 ∙ r.2) (in_at xs s.0 d (source_below r.0 s.0 s.1 lt))
-
-  spread_swapped : Spread xs → Spread ys
-  spread_swapped h =
-      spread_from_at ys d
-      (λ i j p q ne v.
-      let s = source i in
-      let t = source j in
-      let pi : i < length xs = omega arith in
-      let pj : j < length xs = omega arith in
-      at_from_spread xs d h s.0 t.0 (source_below i s.0 s.1 pi) (source_below j t.0 t.1 pj) (source_apart i j s.0 t.0 s.1 t.1 ne)
-      (subst (λ (y : Node). Share y.square (get_or xs t.0 d).square) s.2 (subst (λ (y : Node). Share (get_or ys i d).square y.square) t.2 v)))
-
-same_exchanged : (l : List Node) (i j : ℕ) → swap l i j ≡ holes.swap l i j
-same_exchanged [] i j = refl
-same_exchanged (x ∷ l) i j = refl
-
 pub walk_shuffled : (k : Kind) (s : Square) (t : Tree) (w : Window) (done wait next : List Node) → IsPermutation wait next → Walk k s t w done wait → Walk k s t w done next
-walk_shuffled k s t w done wait next sh h = IsPermutation-keeps wait (λ l. Walk k s t w done l) h step next sh
-  where
-    step : (l : List Node) (i j : ℕ) → i < length l → j < length l → Walk k s t w done l → Walk k s t w done (swap l i j)
-    step [] i j p q v = v
-    step (x ∷ l) i j p q v =
-        let ys = swap (x ∷ l) i j in
-        let len : length ys ≡ length (x ∷ l) = length-swap (x ∷ l) i j in
-        let sw = swapped_from_swap (x ∷ l) ys i j x p q (same_exchanged (x ∷ l) i j) in
-        walk_same k s t w done (x ∷ l) ys (to_swapped (x ∷ l) ys i j x p q len sw) (fro_swapped (x ∷ l) ys i j x p q len sw)
-        (spread_swapped (x ∷ l) ys i j x p q len sw v.spread) v
+walk_shuffled k s t w done wait next sh h =
+    walk_same k s t w done wait next (in_shuffled next wait (IsPermutation-sym wait next sh)) (in_shuffled wait next sh)
+    (spread_from_crowd next
+    (λ row col. omega (arith, sum_by-IsPermutation (over row col) wait next sh, crowd_spread row col wait h.spread)))
+    h

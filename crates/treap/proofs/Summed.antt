@@ -1,12 +1,10 @@
 -- A pile shows what one floor under one shift shows: two floors are the stricter, two shifts add up, and a floor looks at
 -- grades only.
-use Rattle.std.proofs.Common.{◌≡◌, ℕ, ◌+◌, ◌^◌, ◌≤◌, Bool, true, false, cond, ◌&&◌, ◌||◌, ltb, ◌⊎◌, List, [], ◌∷◌, Some, None, Option, sym, refl, ap, ◌∙◌, inl, inr, arith}
+use Rattle.std.proofs.Common.{◌≡◌, ℕ, ◌+◌, ◌≤◌, Bool, true, false, cond, ◌&&◌, List, [], ◌∷◌, Some, None, Option, sym, refl, ap, ◌∙◌, arith}
 use Rattle.std.proofs.lemmas.Bool.Decides.{nat_tests}
-use Rattle.std.proofs.lemmas.Bool.{false≢true}
 use Rattle.grade.specs.Kind.{Kind, Laws}
-use Rattle.treap.specs.Spots.{Spot}
 use Rattle.treap.specs.Trees.{Square, Tree, none, box, Meaning, Lawful}
-use Rattle.treap.specs.Layers.{kept, floor, floored, moved_spot, moved_square, moved, shifted, past_edge, shift_refusal}
+use Rattle.treap.specs.Layers.{floor, floored, moved_square, moved, shifted, past_edge, shift_refusal}
 use Rattle.treap.specs.Piles.{
   Layer,
   floor_at,
@@ -26,116 +24,48 @@ use Rattle.treap.specs.Piles.{
 
 -- a shift by no rows and no columns changes nothing
 
-add_zero : (a : ℕ) → a + 0 ≡ a
-add_zero a = omega arith
-
 moved_none : (t : Tree) → moved 0 0 t ≡ t
 moved_none none = refl
-moved_none (box i m a b c d) =
-    let ea = moved_none a in
-    let eb = moved_none b in
-    let ec = moved_none c in
-    let ed = moved_none d in
-    let er = add_zero m.row in
-    let el = add_zero m.col in
-    λ z. box i record { row = er z; col = el z; grade = m.grade } (ea z) (eb z) (ec z) (ed z)
-
-pub moved_square_none : (s : Square) → moved_square 0 0 s ≡ s
-moved_square_none s = λ z. record { level = s.level; top = add_zero s.top z; left = add_zero s.left z }
+moved_none (box i m a b c d) = grind (arith, moved_none a, moved_none b, moved_none c, moved_none d)
 
 shifted_none : (m : Meaning) → shifted 0 0 m ≡ m
-shifted_none m =
-    let es = moved_square_none m.square in
-    let et = moved_none m.tree in
-    λ z. record { square = es z; ceiling = m.ceiling; tree = et z }
+shifted_none m = grind (arith, moved_none m.tree)
 
 -- two shifts add up
 
-pub add_on : (a b c : ℕ) → a + b + c ≡ a + (b + c)
-add_on a b c = omega arith
-
 module _ (r c r' c' : ℕ) where
-  pub moved_square_again : (s : Square) → moved_square r' c' (moved_square r c s) ≡ moved_square (r + r') (c + c') s
-  moved_square_again s = λ z. record { level = s.level; top = add_on s.top r r' z; left = add_on s.left c c' z }
+  moved_square_again : (s : Square) → moved_square r' c' (moved_square r c s) ≡ moved_square (r + r') (c + c') s
+  moved_square_again s = grind arith
 
   moved_again : (t : Tree) → moved r' c' (moved r c t) ≡ moved (r + r') (c + c') t
   moved_again none = refl
-  moved_again (box i m u v w x) =
-      let eu = moved_again u in
-      let ev = moved_again v in
-      let ew = moved_again w in
-      let ex = moved_again x in
-      let er = add_on m.row r r' in
-      let el = add_on m.col c c' in
-      λ z. box i record { row = er z; col = el z; grade = m.grade } (eu z) (ev z) (ew z) (ex z)
+  moved_again (box i m u v w x) = grind (arith, moved_again u, moved_again v, moved_again w, moved_again x)
 
   shifted_again : (m : Meaning) → shifted r' c' (shifted r c m) ≡ shifted (r + r') (c + c') m
-  shifted_again m =
-      let es = moved_square_again m.square in
-      let et = moved_again m.tree in
-      λ z. record { square = es z; ceiling = m.ceiling; tree = et z }
+  shifted_again m = grind (arith, moved_again m.tree)
 
 -- a floor looks at grades only
 
-moved_kept : (r c : ℕ) (v : Bool) (t : Tree) → moved r c (kept v t) ≡ kept v (moved r c t)
-moved_kept r c true t = refl
-moved_kept r c false t = refl
-
 floor_moved : (k : Kind) (g r c : ℕ) (t : Tree) → floor k g (moved r c t) ≡ moved r c (floor k g t)
 floor_moved k g r c none = refl
-floor_moved k g r c (box i m u v w x) =
-    let eu = floor_moved k g r c u in
-    let ev = floor_moved k g r c v in
-    let ew = floor_moved k g r c w in
-    let ex = floor_moved k g r c x in
-    (λ z. kept (k.above m.grade g) (box i (moved_spot r c m) (eu z) (ev z) (ew z) (ex z)))
-    ∙ sym (moved_kept r c (k.above m.grade g) (box i m (floor k g u) (floor k g v) (floor k g w) (floor k g x)))
+floor_moved k g r c (box i m u v w x) = grind (arith, floor_moved k g r c u, floor_moved k g r c v, floor_moved k g r c w, floor_moved k g r c x)
 
 -- two floors are the stricter
 
-above_both : (k : Kind)
-    → Laws k
-    → (h g a : ℕ)
-    → (k.above a h && k.above a g) ≡ k.above a (cond (k.above h g) h g)
-above_both k L h g a = go (k.above h g) (k.above a h) (k.above a g) refl refl refl
-  where
-    go : (u v w : Bool) → k.above h g ≡ u → k.above a h ≡ v → k.above a g ≡ w → (v && w) ≡ k.above a (cond u h g)
-    go true true true e p q = sym p
-    go true true false e p q = absurd (false≢true (sym q ∙ L.trans a h g p e))
-    go true false w e p q = sym p
-    go false true w e p q = sym q
-    go false false true e p q = absurd (fails (L.total h g))
-      where
-        fails : (k.above h g ≡ true) ⊎ (k.above g h ≡ true) → ⊥
-        fails (inl d) = false≢true (sym e ∙ d)
-        fails (inr d) = false≢true (sym p ∙ L.trans a g h q d)
-    go false false false e p q = sym q
-
-floor_kept : (k : Kind) (g : ℕ) (v : Bool) (i : ℕ) (m : Spot) (a b c d : Tree)
-    → floor k g (kept v (box i m a b c d))
-    ≡ kept (v && k.above m.grade g) (box i m (floor k g a) (floor k g b) (floor k g c) (floor k g d))
-floor_kept k g true i m a b c d = refl
-floor_kept k g false i m a b c d = refl
+above_both : (k : Kind) → Laws k → (h g a : ℕ) → (k.above a h && k.above a g) ≡ k.above a (cond (k.above h g) h g)
+above_both k L h g a = grind (arith, L.trans a h g, L.trans a g h, L.total h g)
 
 floor_again : (k : Kind) → Laws k → (h g : ℕ) (t : Tree) → floor k g (floor k h t) ≡ floor k (cond (k.above h g) h g) t
 floor_again k L h g none = refl
 floor_again k L h g (box i m a b c d) =
-    let ea = floor_again k L h g a in
-    let eb = floor_again k L h g b in
-    let ec = floor_again k L h g c in
-    let ed = floor_again k L h g d in
-    let em = above_both k L h g m.grade in
-    floor_kept k g (k.above m.grade h) i m (floor k h a) (floor k h b) (floor k h c) (floor k h d)
-    ∙ (λ z. kept (em z) (box i m (ea z) (eb z) (ec z) (ed z)))
+    grind (arith, floor_again k L h g a, floor_again k L h g b, floor_again k L h g c, floor_again k L h g d, above_both k L h g m.grade)
 
 under_again : (k : Kind)
     → Laws k
     → (o : Option ℕ) (g : ℕ) (m : Meaning)
     → floored k g (under k o m) ≡ under k (stricter k o g) m
 under_again k L None g m = refl
-under_again k L (Some h) g m =
-    let e = floor_again k L h g m.tree in
-    λ z. record { square = m.square; ceiling = m.ceiling; tree = e z }
+under_again k L (Some h) g m = cc (floor_again k L h g m.tree)
 
 -- so one layer more over a sum is the sum with it
 
@@ -144,9 +74,7 @@ lay_through : (k : Kind)
     → (s : Sum) (y : Layer) (m : Meaning)
     → lay k y (through k s m) ≡ through k (sum_with k s y) m
 lay_through k L s (floor_at g) m =
-    let e = floor_moved k g s.rows s.cols (under k s.least m).tree in
-    (λ z. record { square = (through k s m).square; ceiling = (through k s m).ceiling; tree = e z })
-    ∙ ap (shifted s.rows s.cols) (under_again k L s.least g m)
+    cc (floor_moved k g s.rows s.cols (under k s.least m).tree) ∙ ap (shifted s.rows s.cols) (under_again k L s.least g m)
 lay_through k L s (shift_by rows cols) m = shifted_again s.rows s.cols rows cols (under k s.least m)
 
 piled_through : (k : Kind)
@@ -158,13 +86,11 @@ piled_through k L s (y ∷ p) m = ap (piled k p) (lay_through k L s y m) ∙ pil
 
 -- sums only grow, so some shift is refused exactly if the whole sum is
 
-grows : (k : Kind) (s : Sum) (p : List Layer)
+pub grows : (k : Kind) (s : Sum) (p : List Layer)
     → (s.rows ≤ (summed_from k s p).rows) × (s.cols ≤ (summed_from k s p).cols)
 grows k s [] = (omega arith, omega arith)
 grows k s (floor_at g ∷ p) = grows k (sum_with k s (floor_at g)) p
-grows k s (shift_by rows cols ∷ p) =
-    let e = grows k (sum_with k s (shift_by rows cols)) p in
-    (omega arith, omega arith)
+grows k s (shift_by rows cols ∷ p) = let e = grows k (sum_with k s (shift_by rows cols)) p in (omega arith, omega arith)
 
 past_edge_grows : (r c r' c' : ℕ) (s : Square) → r ≤ r' → c ≤ c' → past_edge r c s ≡ true → past_edge r' c' s ≡ true
 past_edge_grows r c r' c' s le le' e = grind (arith, nat_tests)
@@ -191,11 +117,7 @@ refused k (shift_by rows cols ∷ p) s m n e f =
     next = sum_with k s (shift_by rows cols)
 
     here : past_edge rows cols n.square ≡ past_edge next.rows next.cols m.square
-    here =
-        let q = m.square in
-        let et = add_on q.top s.rows rows in
-        let el = add_on q.left s.cols cols in
-        ap (past_edge rows cols) e ∙ (λ z. ltb 65536 (et z + 2 ^ q.level) || ltb 65536 (el z + 2 ^ q.level))
+    here = ap (past_edge rows cols) e ∙ grind arith
 
     go : (v : Bool)
         → past_edge next.rows next.cols m.square ≡ v
@@ -209,5 +131,5 @@ refused k (shift_by rows cols ∷ p) s m n e f =
 pub one_floor_one_shift_lem : OneFloorOneShift
 one_floor_one_shift_lem k L p m h = (
   ap (piled k p) (sym (shifted_none m)) ∙ piled_through k L no_layer p m,
-  refused k p no_layer m m (sym (moved_square_none m.square)) (within_edge k m h),
+  refused k p no_layer m m (grind arith) (within_edge k m h),
 )

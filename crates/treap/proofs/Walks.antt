@@ -1,22 +1,29 @@
 -- The search's steps keep its invariant, and its end is the draw's answer.
-use Rattle.std.proofs.Common.{◌≡◌, ℕ, suc, ◌<◌, ◌≤◌, ◌⊎◌, List, [], ◌∷◌, ◌++◌, map, length, sym, refl, ap, ◌∙◌, subst, subst₂, inl, inr, arith, length-append}
+use Rattle.std.proofs.Common.{◌≡◌, ℕ, ◌<◌, ◌≤◌, ◌⊎◌, List, [], ◌∷◌, ◌++◌, map, length, Some, sym, refl, ap, subst, subst₂, inl, inr, arith, length-append}
 use native.Mathlib.Decide.{dec_lt}
 use Rattle.grade.specs.Kind.{Kind, Laws}
 use Rattle.treap.specs.Spots.{Spot, Outranks}
-use Rattle.treap.specs.Trees.{Quadrant, tl, tr, bl, br, Square, Within, quadrant, Tree, none, box, pick, Shows, Holds, Hangs, Ordered, In, Apart, Lone, numbers}
-use Rattle.treap.specs.Draws.{Window, Sees, Touches, Seen, Falls, LastOver, Part, whole, deeper, Justifies, cell, Draws}
+use Rattle.treap.specs.Trees.{Quadrant, Square, Within, quadrant, Tree, none, box, pick, Shows, Hangs, Ordered, In, Apart, Lone, numbers}
+use Rattle.treap.specs.Draws.{Window, Sees, Touches, Seen, Falls, Part, whole, deeper, Justifies, Draws}
 use Rattle.treap.specs.Searches.{Node, tree, child, Share, Spread}
 use Rattle.treap.proofs.Ranks.{irrefl_eq, trans, tri}
-use Rattle.treap.proofs.Shown.{below, split, hangs, lawful_quadrant, within_quadrant, root_over}
-use Rattle.treap.proofs.Lists.{in_first, in_last, in_append, apart_shorter}
-use Rattle.treap.proofs.Bests.{Chain, chain_from_falls}
+use Rattle.treap.proofs.Shown.{split, hangs, lawful_quadrant, within_quadrant, root_over}
+use Rattle.treap.proofs.Lists.{Pairs, in_first, in_last, in_append, in_map, from_map, apart_map, apart_shorter}
+use Rattle.treap.proofs.Bests.{Chain, Outdone, chain_from_falls, last_over_from_all, best_from_top}
+use Rattle.treap.proofs.Counted.{cells_apart}
+use lib.ListN.{length-map}
 use Rattle.treap.proofs.Needed.{Reaches, Wanted, Numbered, not_both, part_lawful, touches_up, wanted_is_needed, wanted_is_enough}
-use Rattle.treap.proofs.Counted.{part_of_part}
+use Rattle.treap.proofs.Find.{find_part}
+use Rattle.treap.proofs.Parts.{Boxed, part_shown, part_numbers, shown_part, part_first}
+pub use Rattle.treap.proofs.Parts.{no_part}
 
 -- the boxes of the list fell one after the other, the last one first
 abbrev pub Fell : Kind → List Node → Type 0
-Fell k [] = Unit {0}
-Fell k (e ∷ l) = ((f : Node) → In l f → Outranks k f.mark e.mark) × Fell k l
+Fell k = Pairs (λ (e f : Node). Outranks k f.mark e.mark)
+
+-- a tree is one of the boxes of the list, or stands below one
+abbrev Under : List Node → Square → Tree → Type 0
+Under wait r u = (f : Node) × In wait f × Part f.square (tree f) r u
 
 -- the boxes done are opened, and the boxes that wait are all that is left of the window
 pub record Walk (k : Kind) (s : Square) (t : Tree) (w : Window) (done wait : List Node) : Type 0 where
@@ -100,92 +107,31 @@ SearchEnds =
     → (length l ≡ n) ⊎ (wait ≡ [])
     → Draws k s t w n l (length done)
 
--- parts
-
-abbrev pub Boxed : Tree → Type 0
-Boxed none = ⊥
-Boxed (box i m a b c d) = Unit {0}
-
-pub no_part : {r : Square} {x : Square} {y : Tree} → Part r none x y → Boxed y → ⊥
-no_part whole z = z
-no_part (deeper a b) z = no_part a tt
-
-level_above : (k : Kind) (r : Square) (m : Spot) (u : Tree) → Hangs k r m u → Boxed u → 0 < r.level
-level_above k r m none h g = absurd g
-level_above k r m (box i x a b c d) h g = h.0
-
 pub touches_part : (k : Kind) (w : Window) {s : Square} {t : Tree} {r : Square} {u : Tree} → Part s t r u → Ordered k s t → Boxed u → Touches r w → Touches s w
 touches_part k w whole h g v = v
 touches_part k w (deeper {r = r} {i = i} {m = m} {a = a} {b = b} {c = c} {d = d} p q) h g v =
     let hr = part_lawful k p h in
-    touches_part k w p h tt (touches_up r q w (level_above k r m (pick a b c d q) (hangs k r i m a b c d hr q) g) v)
-
-pub part_shown : {s : Square} {t : Tree} {r : Square} {u : Tree} → Part s t r u → (x : Spot) → Shows u x → Shows t x
-part_shown whole x h = h
-part_shown (deeper {r = r} {i = i} {m = m} {a = a} {b = b} {c = c} {d = d} p q) x h = part_shown p x (below a b c d i m x q h)
-
--- the numbers of a part are numbers of the whole
-pub numbers_quadrant : (i : ℕ) (m : Spot) (a b c d : Tree) (q : Quadrant) (n : ℕ) → In (numbers (pick a b c d q)) n → In (numbers a ++ (numbers b ++ (numbers c ++ numbers d))) n
-numbers_quadrant i m a b c d tl n p = in_first (numbers a) _ n p
-numbers_quadrant i m a b c d tr n p = in_last (numbers a) _ n (in_first (numbers b) _ n p)
-numbers_quadrant i m a b c d bl n p = in_last (numbers a) _ n (in_last (numbers b) _ n (in_first (numbers c) _ n p))
-numbers_quadrant i m a b c d br n p = in_last (numbers a) _ n (in_last (numbers b) _ n (in_last (numbers c) _ n p))
-
-pub part_numbers : {s : Square} {t : Tree} {r : Square} {u : Tree} → Part s t r u → (n : ℕ) → In (numbers u) n → In (numbers t) n
-part_numbers whole n h = h
-part_numbers (deeper {r = r} {i = i} {m = m} {a = a} {b = b} {c = c} {d = d} p q) n h = part_numbers p n (inr (numbers_quadrant i m a b c d q n h))
-
--- a mark that is shown is the mark of a part
-abbrev Marked : Square → Tree → Spot → Type 0
-Marked s t x = (e : Node) × Part s t e.square (tree e) × (e.mark ≡ x)
-
-marked_up : (s : Square) (i : ℕ) (m : Spot) (a b c d : Tree) (x : Spot) (q : Quadrant) → Marked (quadrant q s) (pick a b c d q) x → Marked s (box i m a b c d) x
-marked_up s i m a b c d x q h = (h.0, part_of_part (deeper whole q) h.1, h.2)
-
-pub shown_part : (s : Square) (t : Tree) (x : Spot) → Shows t x → Marked s t x
-shown_part s none x h = absurd h
-shown_part s (box i m a b c d) x (inl e) = (record { square = s; number = i; mark = m; a = a; b = b; c = c; d = d }, whole, sym e)
-shown_part s (box i m a b c d) x (inr (inl h)) = marked_up s i m a b c d x tl (shown_part (quadrant tl s) a x h)
-shown_part s (box i m a b c d) x (inr (inr (inl h))) = marked_up s i m a b c d x tr (shown_part (quadrant tr s) b x h)
-shown_part s (box i m a b c d) x (inr (inr (inr (inl h)))) = marked_up s i m a b c d x bl (shown_part (quadrant bl s) c x h)
-shown_part s (box i m a b c d) x (inr (inr (inr (inr h)))) = marked_up s i m a b c d x br (shown_part (quadrant br s) d x h)
-
-abbrev quadrant_of : Tree → Quadrant → Tree
-quadrant_of none q = none
-quadrant_of (box i m a b c d) q = pick a b c d q
-
--- a part is the whole, or lies in a quadrant
-pub part_first : {s : Square} {i : ℕ} {m : Spot} {a b c d : Tree} {r : Square} {u : Tree} → Part s (box i m a b c d) r u → ((r ≡ s) × (u ≡ box i m a b c d)) ⊎ ((q : Quadrant) × Part (quadrant q s) (pick a b c d q) r u)
-part_first whole = inl (refl, refl)
-part_first {s} {i} {m} {a} {b} {c} {d} (deeper {r = r} {i = j} {m = x} {a = a'} {b = b'} {c = c'} {d = d'} p q) = go (part_first p)
+    touches_part k w p h tt (touches_up r q w (level (pick a b c d q) (hangs k r i m a b c d hr q) g) v)
   where
-    go : ((r ≡ s) × (box j x a' b' c' d' ≡ box i m a b c d)) ⊎ ((z : Quadrant) × Part (quadrant z s) (pick a b c d z) r (box j x a' b' c' d'))
-        → ((quadrant q r ≡ s) × (pick a' b' c' d' q ≡ box i m a b c d)) ⊎ ((z : Quadrant) × Part (quadrant z s) (pick a b c d z) (quadrant q r) (pick a' b' c' d' q))
-    go (inl e) =
-        inr (
-          q,
-          subst₂ (λ (v : Square) (y : Tree). Part (quadrant q s) (pick a b c d q) v y) (sym (ap (quadrant q) e.0)) (sym (ap (λ (y : Tree). quadrant_of y q) e.1))
-              whole,
-        )
-    go (inr e) = inr (e.0, deeper e.1 q)
+    level : (u : Tree) → Hangs k r m u → Boxed u → 0 < r.level
+    level none h g = absurd g
+    level (box _ _ _ _ _ _) h g = h.0
+
+-- the box of a tree, if it has one, in the square
+abbrev boxed_in : Square → Tree → Node → Node
+boxed_in s none e = e
+boxed_in s (box i m a b c d) e = record { square = s; number = i; mark = m; a = a; b = b; c = c; d = d }
 
 pub node_eq : (e f : Node) → e.square ≡ f.square → tree e ≡ tree f → e ≡ f
-node_eq e f p q =
-    let p1 : e.number ≡ f.number = cc in
-    let p2 : e.mark ≡ f.mark = cc in
-    let p3 : e.a ≡ f.a = cc in
-    let p4 : e.b ≡ f.b = cc in
-    let p5 : e.c ≡ f.c = cc in
-    let p6 : e.d ≡ f.d = cc in
-    λ i. record { square = p i; number = p1 i; mark = p2 i; a = p3 i; b = p4 i; c = p5 i; d = p6 i }
+node_eq e f p q = λ i. boxed_in (p i) (q i) e
 
 -- the mark of a part of f is f's, or f's outranks it
 part_below : (k : Kind) → Laws k → (f e : Node) → Ordered k f.square (tree f) → Part f.square (tree f) e.square (tree e) → (e.mark ≡ f.mark) ⊎ Outranks k f.mark e.mark
-part_below k L f e h p = go (split f.a f.b f.c f.d f.mark e.mark f.number (part_shown p e.mark (inl refl)))
-  where
-    go : (e.mark ≡ f.mark) ⊎ ((q : Quadrant) × Shows (child f q) e.mark) → (e.mark ≡ f.mark) ⊎ Outranks k f.mark e.mark
-    go (inl x) = inl x
-    go (inr x) = inr (root_over k L f.square f.number f.mark f.a f.b f.c f.d h x.0 e.mark x.1)
+part_below k L f e h p =
+    elim (split f.a f.b f.c f.d f.mark e.mark f.number (part_shown p e.mark (inl refl))) [
+      | inl x ↦ inl x
+      | inr x ↦ inr (root_over k L f.square f.number f.mark f.a f.b f.c f.d h x.0 e.mark x.1)
+    ]
 
 -- lists of marks
 
@@ -199,26 +145,21 @@ reaches_push k [] m x h = h
 reaches_push k (y ∷ []) m x h = h
 reaches_push k (y ∷ z ∷ l) m x h = reaches_push k (z ∷ l) m x h
 
-last_over_from_all : (k : Kind) (l : List Spot) (m : Spot) → 0 < length l → ((x : Spot) → In l x → Outranks k x m) → LastOver k l m
-last_over_from_all k [] m h f = omega arith
-last_over_from_all k (x ∷ []) m h f = f x (inl refl)
-last_over_from_all k (x ∷ y ∷ l) m h f = last_over_from_all k (y ∷ l) m (omega arith) (λ z p. f z (inr p))
-
-pub spread_joined : (l r : List Node) → Spread l → Spread r → ((e f : Node) → In l e → In r f → Share e.square f.square → ⊥) → Spread (l ++ r)
+spread_joined : (l r : List Node) → Spread l → Spread r → ((e f : Node) → In l e → In r f → Share e.square f.square → ⊥) → Spread (l ++ r)
 spread_joined [] r hl hr f = hr
-spread_joined (x ∷ l) r hl hr f = (λ g p. cases g (in_append l r g p), spread_joined l r hl.1 hr (λ e g p. f e g (inr p)))
-  where
-    cases : (g : Node) → In l g ⊎ In r g → Share x.square g.square → ⊥
-    cases g (inl p) = hl.0 g p
-    cases g (inr p) = f x g (inl refl) p
-
--- the steps
+spread_joined (x ∷ l) r hl hr f = (
+  λ g p. elim (in_append l r g p) [ inl q ↦ hl.0 g q | inr q ↦ f x g (inl refl) q ],
+  spread_joined l r hl.1 hr (λ e g p. f e g (inr p)),
+)
 
 pub search_starts : SearchStarts
 search_starts k e h w n pos touch = (
   record {
     done_parts = λ f p. absurd p;
-    wait_parts = λ f p. one f p;
+    wait_parts = λ f p. elim p [
+      | inl q ↦ subst (λ (g : Node). Part e.square (tree e) g.square (tree g) × Touches g.square w) (sym q) (whole, touch)
+      | inr q ↦ absurd q
+    ];
     spread = (λ f p. absurd p, tt);
     fell = tt;
     above = λ f g p. absurd p;
@@ -226,20 +167,17 @@ search_starts k e h w n pos touch = (
   },
   record { listed = λ x p. absurd p; all = λ f p. absurd p; falls = tt; last = λ z f p. absurd p; most = omega arith },
 )
-  where
-    one : (f : Node) → In (e ∷ []) f → Part e.square (tree e) f.square (tree f) × Touches f.square w
-    one f (inl p) = subst (λ (g : Node). Part e.square (tree e) g.square (tree g) × Touches g.square w) (sym p) (whole, touch)
-    one f (inr p) = absurd p
 
-module _ (k : Kind) (L : Laws k) (s : Square) (t : Tree) (h : Ordered k s t) (w : Window) (done wait : List Node) (f : Node) (kids : List Node) (walk : Walk k s t w done (f ∷ wait)) (best : (e : Node) → In wait e → Outranks k e.mark f.mark → ⊥) (K : Kids w f kids) where
+-- the next box is opened
+module _ (k : Kind) (L : Laws k) (s : Square) (t : Tree) (h : Ordered k s t) (w : Window) (n : ℕ) (done wait : List Node) (l : List Spot) (f : Node) (kids : List Node) (st : Search k s t w n done (f ∷ wait) l) (few : length l < n) (best : (e : Node) → In wait e → Outranks k e.mark f.mark → ⊥) (K : Kids w f kids) where
+  abbrev walk : Walk k s t w done (f ∷ wait)
+  walk = st.0
+
   part_f : Part s t f.square (tree f)
   part_f = (walk.wait_parts f (inl refl)).0
 
   lawful_f : Ordered k f.square (tree f)
   lawful_f = part_lawful k part_f h
-
-  holds_part : (e : Node) → Part s t e.square (tree e) → Holds k e.square e.mark
-  holds_part e p = (part_lawful k p h).0
 
   kid_part : (e : Node) → In kids e → Part s t e.square (tree e)
   kid_part e p =
@@ -253,362 +191,184 @@ module _ (k : Kind) (L : Laws k) (s : Square) (t : Tree) (h : Ordered k s t) (w 
 
   wait_below : (e : Node) → In wait e → Outranks k f.mark e.mark
   wait_below e p =
-      let pe = (walk.wait_parts e (inr p)).0 in
-      go (tri k L f.mark e.mark)
-    where
-      apart : f.mark ≡ e.mark → ⊥
-      apart x =
-          walk.spread.0 e p
-          record {
-            row = e.mark.row;
-            col = e.mark.col;
-            first = subst (λ (y : Spot). Within f.square y.row y.col) x lawful_f.0.inside;
-            second = (holds_part e (walk.wait_parts e (inr p)).0).inside;
-          }
-
-      go : Outranks k f.mark e.mark ⊎ (f.mark ≡ e.mark) ⊎ Outranks k e.mark f.mark → Outranks k f.mark e.mark
-      go (inl x) = x
-      go (inr (inl x)) = absurd (apart x)
-      go (inr (inr x)) = absurd (best e p x)
+      elim (tri k L f.mark e.mark) [
+        | inl x ↦ x
+        | inr (inl x) ↦ absurd (
+            walk.spread.0 e p
+            record {
+              row = e.mark.row;
+              col = e.mark.col;
+              first = subst (λ (y : Spot). Within f.square y.row y.col) x lawful_f.0.inside;
+              second = (part_lawful k (walk.wait_parts e (inr p)).0 h).0.inside;
+            }
+            )
+        | inr (inr x) ↦ absurd (best e p x)
+      ]
 
   next_below : (e : Node) → In (kids ++ wait) e → Outranks k f.mark e.mark
-  next_below e p = go (in_append kids wait e p)
-    where
-      go : In kids e ⊎ In wait e → Outranks k f.mark e.mark
-      go (inl x) = (kid_below e x).1
-      go (inr x) = wait_below e x
-
-  next_parts : (e : Node) → In (kids ++ wait) e → Part s t e.square (tree e) × Touches e.square w
-  next_parts e p = go (in_append kids wait e p)
-    where
-      go : In kids e ⊎ In wait e → Part s t e.square (tree e) × Touches e.square w
-      go (inl x) = (kid_part e x, (K.are e x).3)
-      go (inr x) = walk.wait_parts e (inr x)
-
-  step_done : (e : Node) → In (f ∷ done) e → Part s t e.square (tree e) × Touches e.square w
-  step_done e (inl x) = subst (λ (y : Node). Part s t y.square (tree y) × Touches y.square w) (sym x) (walk.wait_parts f (inl refl))
-  step_done e (inr x) = walk.done_parts e x
-
-  step_spread : Spread (kids ++ wait)
-  step_spread =
-      spread_joined kids wait K.spread walk.spread.1
-      (λ e g p q share.
-      walk.spread.0 g q
-      record {
-        row = share.row;
-        col = share.col;
-        first =
-            within_quadrant f.square (K.are e p).0 share.row share.col (kid_below e p).0
-            (subst (λ (y : Square). Within y share.row share.col) (K.are e p).1 share.first);
-        second = share.second;
-      })
-
-  step_above : (e g : Node) → In (f ∷ done) e → In (kids ++ wait) g → Outranks k e.mark g.mark
-  step_above e g (inl x) p = subst (λ (y : Node). Outranks k y.mark g.mark) (sym x) (next_below g p)
-  step_above e g (inr x) p =
-      trans k L e.mark f.mark g.mark
-      (walk.above e f x (inl refl)) (next_below g p)
+  next_below e p = elim (in_append kids wait e p) [ inl x ↦ (kid_below e x).1 | inr x ↦ wait_below e x ]
 
   -- a box of a quadrant of f is below a box that now waits
-  under_kid : (e : Node) (q : Quadrant) (u : Tree) → u ≡ child f q → Ordered k (quadrant q f.square) u → Part (quadrant q f.square) u e.square (tree e) → Touches e.square w → (g : Node) × In (kids ++ wait) g × Part g.square (tree g) e.square (tree e)
+  under_kid : (e : Node) (q : Quadrant) (u : Tree) → u ≡ child f q → Ordered k (quadrant q f.square) u → Part (quadrant q f.square) u e.square (tree e) → Touches e.square w → Under (kids ++ wait) e.square (tree e)
   under_kid e q none eq hu p v = absurd (no_part p tt)
   under_kid e q (box i m a b c d) eq hu p v =
       let g : Node = record { square = quadrant q f.square; number = i; mark = m; a = a; b = b; c = c; d = d } in
       (g, in_first kids wait g (K.all g q refl eq (touches_part k w p hu tt v)), p)
 
-  step_cover : (e : Node) → Part s t e.square (tree e) → Touches e.square w → In (f ∷ done) e ⊎ ((g : Node) × In (kids ++ wait) g × Part g.square (tree g) e.square (tree e))
-  step_cover e p v = go (walk.cover e p v)
-    where
-      at_f : ((e.square ≡ f.square) × (tree e ≡ tree f)) ⊎ ((q : Quadrant) × Part (quadrant q f.square) (child f q) e.square (tree e)) → In (f ∷ done) e ⊎ ((g : Node) × In (kids ++ wait) g × Part g.square (tree g) e.square (tree e))
-      at_f (inl x) = inl (inl (node_eq e f x.0 x.1))
-      at_f (inr x) =
-          inr (under_kid e x.0 (child f x.0) refl (lawful_quadrant k f.square f.number f.mark f.a f.b f.c f.d lawful_f x.0) x.1 v)
+  step_cover : (e : Node) → Part s t e.square (tree e) → Touches e.square w → In (f ∷ done) e ⊎ Under (kids ++ wait) e.square (tree e)
+  step_cover e p v =
+      elim (walk.cover e p v) [
+        | inl x ↦ inl (inr x)
+        | inr (g, inl x, z) ↦ elim (part_first (subst (λ (y : Node). Part y.square (tree y) e.square (tree e)) x z)) [
+          | inl y ↦ inl (inl (node_eq e f y.0 y.1))
+          | inr y ↦ inr (under_kid e y.0 (child f y.0) refl (lawful_quadrant k f.square f.number f.mark f.a f.b f.c f.d lawful_f y.0) y.1 v)
+        ]
+        | inr (g, inr x, z) ↦ inr (g, in_last kids wait g x, z)
+      ]
 
-      at : (g : Node) → In (f ∷ wait) g → Part g.square (tree g) e.square (tree e) → In (f ∷ done) e ⊎ ((g : Node) × In (kids ++ wait) g × Part g.square (tree g) e.square (tree e))
-      at g (inl x) z = at_f (part_first (subst (λ (y : Node). Part y.square (tree y) e.square (tree e)) x z))
-      at g (inr x) z = inr (g, in_last kids wait g x, z)
-
-      go : In done e ⊎ ((g : Node) × In (f ∷ wait) g × Part g.square (tree g) e.square (tree e)) → In (f ∷ done) e ⊎ ((g : Node) × In (kids ++ wait) g × Part g.square (tree g) e.square (tree e))
-      go (inl x) = inl (inr x)
-      go (inr x) = at x.0 x.1 x.2
-
-  pub walk_on : Walk k s t w (f ∷ done) (kids ++ wait)
+  walk_on : Walk k s t w (f ∷ done) (kids ++ wait)
   walk_on =
       record {
-        done_parts = step_done;
-        wait_parts = next_parts;
-        spread = step_spread;
+        done_parts = λ e p. elim p [
+          | inl x ↦ subst (λ (y : Node). Part s t y.square (tree y) × Touches y.square w) (sym x) (walk.wait_parts f (inl refl))
+          | inr x ↦ walk.done_parts e x
+        ];
+        wait_parts = λ e p. elim (in_append kids wait e p) [ inl x ↦ (kid_part e x, (K.are e x).3) | inr x ↦ walk.wait_parts e (inr x) ];
+        spread =
+            spread_joined kids wait K.spread walk.spread.1
+            (λ e g p q share.
+            walk.spread.0 g q
+            record {
+              row = share.row;
+              col = share.col;
+              first =
+                  within_quadrant f.square (K.are e p).0 share.row share.col (kid_below e p).0
+                  (subst (λ (y : Square). Within y share.row share.col) (K.are e p).1 share.first);
+              second = share.second;
+            });
         fell = (λ e p. walk.above e f p (inl refl), walk.fell);
-        above = step_above;
+        above = λ e g p q. elim p [
+          | inl x ↦ subst (λ (y : Node). Outranks k y.mark g.mark) (sym x) (next_below g q)
+          | inr x ↦ trans k L e.mark f.mark g.mark (walk.above e f x (inl refl)) (next_below g q)
+        ];
         cover = step_cover;
       }
 
--- the lists
+  lists_on : Sees w f.mark.row f.mark.col → Search k s t w n (f ∷ done) (kids ++ wait) (l ++ (f.mark ∷ []))
+  lists_on seen = (
+    walk_on,
+    record {
+      listed = λ x p. elim (in_append l (f.mark ∷ []) x p) [
+        | inl y ↦ let r = st.1.listed x y in (r.0, inr r.1, r.2, r.3)
+        | inr (inl y) ↦ (f, inl refl, y, subst (λ (z : Spot). Sees w z.row z.col) (sym y) seen)
+        | inr (inr y) ↦ absurd y
+      ];
+      all = λ e p v. elim p [
+        | inl x ↦ in_last l (f.mark ∷ []) e.mark (inl (ap (λ (y : Node). y.mark) x))
+        | inr x ↦ in_first l (f.mark ∷ []) e.mark (st.1.all e x v)
+      ];
+      falls =
+          falls_push k l f.mark st.1.falls
+          (λ x p. let r = st.1.listed x p in subst (λ (y : Spot). Outranks k y f.mark) (sym r.2) (walk.above r.0 f r.1 (inl refl)));
+      last = λ _ e p. reaches_push k l f.mark e.mark (elim p [ inl x ↦ inl (ap (λ (y : Node). y.mark) x) | inr x ↦ inr (walk.above e f x (inl refl)) ]);
+      most = simp length-append (omega arith);
+    },
+  )
+
+  passes_on : (Sees w f.mark.row f.mark.col → ⊥) → Search k s t w n (f ∷ done) (kids ++ wait) l
+  passes_on unseen = (
+    walk_on,
+    record {
+      listed = λ x p. let r = st.1.listed x p in (r.0, inr r.1, r.2, r.3);
+      all = λ e p v. elim p [ inl x ↦ absurd (unseen (subst (λ (y : Node). Sees w y.mark.row y.mark.col) x v)) | inr x ↦ st.1.all e x v ];
+      falls = st.1.falls;
+      last = λ e. absurd (omega arith);
+      most = st.1.most;
+    },
+  )
 
 pub search_lists : SearchLists
-search_lists k L s t h w n done wait l f kids st few best K seen = (
-  walk_on k L s t h w done wait f kids st.0 best K,
-  record { listed = listed; all = all; falls = falls_push k l f.mark st.1.falls over; last = last; most = most },
-)
-  where
-    over : (x : Spot) → In l x → Outranks k x f.mark
-    over x p =
-        let r = st.1.listed x p in
-        subst (λ (y : Spot). Outranks k y f.mark) (sym r.2) (st.0.above r.0 f r.1 (inl refl))
-
-    listed : (x : Spot) → In (l ++ (f.mark ∷ [])) x → (e : Node) × In (f ∷ done) e × (x ≡ e.mark) × Sees w x.row x.col
-    listed x p = go (in_append l (f.mark ∷ []) x p)
-      where
-        go : In l x ⊎ In (f.mark ∷ []) x → (e : Node) × In (f ∷ done) e × (x ≡ e.mark) × Sees w x.row x.col
-        go (inl y) = let r = st.1.listed x y in (r.0, inr r.1, r.2, r.3)
-        go (inr (inl y)) = (f, inl refl, y, subst (λ (z : Spot). Sees w z.row z.col) (sym y) seen)
-        go (inr (inr y)) = absurd y
-
-    all : (e : Node) → In (f ∷ done) e → Sees w e.mark.row e.mark.col → In (l ++ (f.mark ∷ [])) e.mark
-    all e (inl x) v = in_last l (f.mark ∷ []) e.mark (inl (ap (λ (y : Node). y.mark) x))
-    all e (inr x) v = in_first l (f.mark ∷ []) e.mark (st.1.all e x v)
-
-    last : length (l ++ (f.mark ∷ [])) ≡ n → (e : Node) → In (f ∷ done) e → Reaches k (l ++ (f.mark ∷ [])) e.mark
-    last _ e (inl x) = reaches_push k l f.mark e.mark (inl (ap (λ (y : Node). y.mark) x))
-    last _ e (inr x) = reaches_push k l f.mark e.mark (inr (st.0.above e f x (inl refl)))
-
-    most : length (l ++ (f.mark ∷ [])) ≤ n
-    most = simp length-append (omega arith)
+search_lists = lists_on
 
 pub search_passes : SearchPasses
-search_passes k L s t h w n done wait l f kids st few best K unseen = (
-  walk_on k L s t h w done wait f kids st.0 best K,
-  record {
-    listed = λ x p. let r = st.1.listed x p in (r.0, inr r.1, r.2, r.3);
-    all = all;
-    falls = st.1.falls;
-    last = λ e. absurd (omega arith);
-    most = st.1.most;
-  },
-)
-  where
-    all : (e : Node) → In (f ∷ done) e → Sees w e.mark.row e.mark.col → In l e.mark
-    all e (inl x) v = absurd (unseen (subst (λ (y : Node). Sees w y.mark.row y.mark.col) x v))
-    all e (inr x) v = st.1.all e x v
-
--- the end
-
--- the boxes of a tree, each its number and its mark
-pairs : Tree → List (ℕ × Spot)
-pairs none = []
-pairs (box i m a b c d) = (i, m) ∷ (pairs a ++ (pairs b ++ (pairs c ++ pairs d)))
-
-firsts : List (ℕ × Spot) → List ℕ
-firsts [] = []
-firsts (p ∷ l) = p.0 ∷ firsts l
-
-firsts_append : (l r : List (ℕ × Spot)) → firsts (l ++ r) ≡ firsts l ++ firsts r
-unfolding firsts
-firsts_append [] r = refl
-firsts_append (p ∷ l) r = ap (λ (z : List ℕ). p.0 ∷ z) (firsts_append l r)
-
-firsts_pairs : (t : Tree) → firsts (pairs t) ≡ numbers t
-unfolding firsts pairs
-firsts_pairs none = refl
-firsts_pairs (box i m a b c d) =
-    let ea = firsts_pairs a in
-    let eb = firsts_pairs b in
-    let ec = firsts_pairs c in
-    let ed = firsts_pairs d in
-    simp (firsts_append, ea, eb, ec, ed)
-
-in_firsts : (l : List (ℕ × Spot)) (p : ℕ × Spot) → In l p → In (firsts l) p.0
-unfolding firsts
-in_firsts [] p h = h
-in_firsts (q ∷ l) p (inl e) = inl (ap (λ (z : ℕ × Spot). z.0) e)
-in_firsts (q ∷ l) p (inr h) = inr (in_firsts l p h)
-
-one_pair : (l : List (ℕ × Spot)) → Apart (firsts l) → (p q : ℕ × Spot) → In l p → In l q → p.0 ≡ q.0 → p.1 ≡ q.1
-unfolding firsts
-one_pair [] h p q hp hq e = absurd hp
-one_pair (r ∷ l) h p q (inl x) (inl y) e = ap (λ (z : ℕ × Spot). z.1) (x ∙ sym y)
-one_pair (r ∷ l) h p q (inl x) (inr y) e = absurd (h.0 (subst (λ (z : ℕ). In (firsts l) z) (sym e ∙ ap (λ (z : ℕ × Spot). z.0) x) (in_firsts l q y)))
-one_pair (r ∷ l) h p q (inr x) (inl y) e = absurd (h.0 (subst (λ (z : ℕ). In (firsts l) z) (e ∙ ap (λ (z : ℕ × Spot). z.0) y) (in_firsts l p x)))
-one_pair (r ∷ l) h p q (inr x) (inr y) e = one_pair l h.1 p q x y e
-
-pairs_quadrant : (i : ℕ) (m : Spot) (a b c d : Tree) (q : Quadrant) (x : ℕ × Spot) → In (pairs (pick a b c d q)) x → In (pairs (box i m a b c d)) x
-unfolding pairs
-pairs_quadrant i m a b c d tl x h = inr (in_first _ _ x h)
-pairs_quadrant i m a b c d tr x h = inr (in_last (pairs a) _ x (in_first _ _ x h))
-pairs_quadrant i m a b c d bl x h = inr (in_last (pairs a) _ x (in_last (pairs b) _ x (in_first _ _ x h)))
-pairs_quadrant i m a b c d br x h = inr (in_last (pairs a) _ x (in_last (pairs b) _ x (in_last (pairs c) _ x h)))
-
-pairs_part : {s : Square} {t : Tree} {r : Square} {u : Tree} → Part s t r u → (x : ℕ × Spot) → In (pairs u) x → In (pairs t) x
-pairs_part whole x h = h
-pairs_part (deeper {r = r} {i = i} {m = m} {a = a} {b = b} {c = c} {d = d} p q) x h = pairs_part p x (pairs_quadrant i m a b c d q x h)
+search_passes = passes_on
 
 -- two boxes with one number have one mark
-pub one_number : (s : Square) (t : Tree) → Apart (numbers t) → (e f : Node) → Part s t e.square (tree e) → Part s t f.square (tree f) → e.number ≡ f.number → e.mark ≡ f.mark
-unfolding pairs
+one_number : (s : Square) (t : Tree) → Apart (numbers t) → (e f : Node) → Part s t e.square (tree e) → Part s t f.square (tree f) → e.number ≡ f.number → e.mark ≡ f.mark
 one_number s t h e f p q x =
-    one_pair (pairs t) (subst (λ (z : List ℕ). Apart z) (sym (firsts_pairs t)) h) (e.number, e.mark) (f.number, f.mark)
-    (pairs_part p (e.number, e.mark) (inl refl))
-    (pairs_part q (f.number, f.mark) (inl refl))
-    x
+    cc (find_part s t e.number e.square (tree e) p h refl, find_part s t e.number f.square (tree f) q h (ap Some (sym x)))
 
-abbrev names : List Node → List ℕ
-names [] = []
-names (e ∷ l) = e.number ∷ names l
-
-length_names : (l : List Node) → length (names l) ≡ length l
-length_names [] = refl
-length_names (e ∷ l) = ap suc (length_names l)
-
-in_names : (l : List Node) (e : Node) → In l e → In (names l) e.number
-in_names [] e h = h
-in_names (f ∷ l) e (inl x) = inl (ap (λ (z : Node). z.number) x)
-in_names (f ∷ l) e (inr x) = inr (in_names l e x)
-
-from_names : (l : List Node) (i : ℕ) → In (names l) i → (e : Node) × In l e × (e.number ≡ i)
-from_names [] i h = absurd h
-from_names (f ∷ l) i (inl x) = (f, inl refl, sym x)
-from_names (f ∷ l) i (inr x) = let r = from_names l i x in (r.0, inr r.1, r.2)
-
-names_apart : (k : Kind) (s : Square) (t : Tree) → Apart (numbers t) → (l : List Node) → ((e : Node) → In l e → Part s t e.square (tree e)) → Fell k l → Apart (names l)
-names_apart k s t h [] parts f = tt
-names_apart k s t h (e ∷ l) parts f = (
-  λ p. let r = from_names l e.number p in
-      irrefl_eq k r.0.mark e.mark (one_number s t h r.0 e (parts r.0 (inr r.1)) (parts e (inl refl)) r.2) (f.0 r.0 r.1),
-  names_apart k s t h l (λ g p. parts g (inr p)) f.1,
-)
-
--- marks that fall, of which no two stand in one cell, have no cell twice
-from_cells : (l : List Spot) (c : ℕ × ℕ) → In (map cell l) c → (x : Spot) × In l x × (c ≡ cell x)
-from_cells [] c h = absurd h
-from_cells (y ∷ l) c (inl e) = (y, inl refl, e)
-from_cells (y ∷ l) c (inr h) = let r = from_cells l c h in (r.0, inr r.1, r.2)
-
-cells_apart : (k : Kind) (l : List Spot)
-    → Chain k l
-    → ((x y : Spot) → In l x → In l y → x.row ≡ y.row → x.col ≡ y.col → x ≡ y)
-    → Apart (map cell l)
-cells_apart k [] f one = tt
-cells_apart k (x ∷ l) f one = (
-  λ p. let r = from_cells l (cell x) p in
-      let same : x ≡ r.0 =
-      one x r.0 (inl refl) (inr r.1) (ap (λ (z : ℕ × ℕ). z.0) r.2) (ap (λ (z : ℕ × ℕ). z.1) r.2) in
-      irrefl_eq k x r.0 same (f.0 r.0 r.1),
-  cells_apart k l f.1 (λ y z p q. one y z (inr p) (inr q)),
-)
+abbrev name : Node → ℕ
+name e = e.number
 
 pub search_ends : SearchEnds
 search_ends k L s t h lone ap' w n pos done wait l st end =
     record {
       best =
-          record {
-            listed = λ x p. record { shown = shown x p; seen = (st.1.listed x p).3 };
-            falls = st.1.falls;
-            left_out = left_out;
-            few = few;
-            most = st.1.most;
-          };
-      cells =
-          cells_apart k l (chain_from_falls k L l st.1.falls) (λ x y p q. lone x y (shown x p) (shown y q));
-      set = names done;
-      of_tree = λ i p. of_tree i (from_names done i p);
+          best_from_top k (Seen t w) n l pos
+          record { listed = λ x p. record { shown = shown x p; seen = (st.1.listed x p).3 }; chain = chain; rest = place; most = st.1.most };
+      cells = cells_apart k l chain (λ x y p q. lone x y (shown x p) (shown y q));
+      set = map name done;
+      of_tree = λ i p. let r = from_map name done i p in
+          subst (λ (z : ℕ). In (numbers t) z) (sym r.2) (part_numbers (st.0.done_parts r.0 r.1).0 r.0.number (inl refl));
       once = once;
-      enough = wanted_is_enough k L s t h w n l pos st.1.most (names done) needs;
-      size = length_names done;
-      least = least;
+      enough = wanted_is_enough k L s t w n l pos st.1.most (map name done) needs;
+      size = length-map done name;
+      least = λ S j.
+          let le = apart_shorter (map name done) S once (λ i p. has S j i (from_map name done i p)) in
+          let e = length-map done name in
+          omega arith;
     }
   where
+    chain : Chain k l
+    chain = chain_from_falls k L l st.1.falls
+
     shown : (x : Spot) → In l x → Shows t x
     shown x p = let r = st.1.listed x p in part_shown (st.0.done_parts r.0 r.1).0 x (inl r.2)
 
-    of_tree : (i : ℕ) → ((e : Node) × In done e × (e.number ≡ i)) → In (numbers t) i
-    of_tree i r =
-        subst (λ (z : ℕ). In (numbers t) z) r.2 (part_numbers (st.0.done_parts r.0 r.1).0 r.0.number (inl refl))
-
-    once : Apart (names done)
-    once = names_apart k s t ap' done (λ e p. (st.0.done_parts e p).0) st.0.fell
+    once : Apart (map name done)
+    once =
+        apart_map name (λ (e f : Node). Outranks k f.mark e.mark) done st.0.fell
+        (λ e f p q o x. irrefl_eq k f.mark e.mark (sym (one_number s t ap' e f (st.0.done_parts e p).0 (st.0.done_parts f q).0 x)) o)
 
     -- what lies below a waiting box is outranked by all that is listed, and as many are listed as asked for
-    waits : (e g : Node) → In wait g → Part g.square (tree g) e.square (tree e) → (length l ≡ n) × ((x : Spot) → In l x → Outranks k x e.mark)
-    waits e g p q = (go end, λ x v. down x v (part_below k L g e lg q))
-      where
-        pg : Part s t g.square (tree g)
-        pg = (st.0.wait_parts g p).0
-
-        lg : Ordered k g.square (tree g)
-        lg = part_lawful k pg h
-
-        go : (length l ≡ n) ⊎ (wait ≡ []) → length l ≡ n
-        go (inl x) = x
-        go (inr x) = absurd (subst (λ (z : List Node). In z g) x p)
-
-        top : (x : Spot) → In l x → Outranks k x g.mark
-        top x v = let r = st.1.listed x v in subst (λ (y : Spot). Outranks k y g.mark) (sym r.2) (st.0.above r.0 g r.1 p)
-
-        down : (x : Spot) → In l x → (e.mark ≡ g.mark) ⊎ Outranks k g.mark e.mark → Outranks k x e.mark
-        down x v (inl y) = subst (λ (z : Spot). Outranks k x z) (sym y) (top x v)
-        down x v (inr y) = trans k L x g.mark e.mark (top x v) y
+    waits : (e : Node) → Under wait e.square (tree e) → Outdone k n l e.mark
+    waits e (g, p, q) = (
+      elim end [ inl x ↦ x | inr x ↦ absurd (subst (λ (z : List Node). In z g) x p) ],
+      λ x v. let r = st.1.listed x v in
+          let top : Outranks k x g.mark = subst (λ (y : Spot). Outranks k y g.mark) (sym r.2) (st.0.above r.0 g r.1 p) in
+          elim (part_below k L g e (part_lawful k (st.0.wait_parts g p).0 h) q) [
+            | inl y ↦ subst (λ (z : Spot). Outranks k x z) (sym y) top
+            | inr y ↦ trans k L x g.mark e.mark top y
+          ],
+    )
 
     -- where a seen mark is
-    place : (x : Spot) → Seen t w x → In l x ⊎ ((length l ≡ n) × ((y : Spot) → In l y → Outranks k y x))
-    place x v = go (shown_part s t x v.shown)
-      where
-        go : ((e : Node) × Part s t e.square (tree e) × (e.mark ≡ x)) → In l x ⊎ ((length l ≡ n) × ((y : Spot) → In l y → Outranks k y x))
-        go m =
-            cases
-            (st.0.cover m.0 m.1
-            record {
-              row = x.row;
-              col = x.col;
-              within = subst (λ (y : Spot). Within m.0.square y.row y.col) m.2 (part_lawful k m.1 h).0.inside;
-              seen = v.seen;
-            })
-          where
-            cases : In done m.0 ⊎ ((g : Node) × In wait g × Part g.square (tree g) m.0.square (tree m.0)) → In l x ⊎ ((length l ≡ n) × ((y : Spot) → In l y → Outranks k y x))
-            cases (inl y) = inl (subst (λ (z : Spot). In l z) m.2 (st.1.all m.0 y (subst (λ (z : Spot). Sees w z.row z.col) (sym m.2) v.seen)))
-            cases (inr y) = inr (subst (λ (z : Spot). (length l ≡ n) × ((y : Spot) → In l y → Outranks k y z)) m.2 (waits m.0 y.0 y.1 y.2))
+    place : (x : Spot) → Seen t w x → In l x ⊎ Outdone k n l x
+    place x v =
+        let m = shown_part s t x v.shown in
+        subst (λ (z : Spot). In l z ⊎ Outdone k n l z) m.2
+        (elim (st.0.cover m.0 m.1 record { row = x.row; col = x.col; within = subst (λ (y : Spot). Within m.0.square y.row y.col) m.2 (part_lawful k m.1 h).0.inside; seen = v.seen }) [
+          | inl y ↦ inl (st.1.all m.0 y (subst (λ (z : Spot). Sees w z.row z.col) (sym m.2) v.seen))
+          | inr y ↦ inr (waits m.0 y)
+        ])
 
-    left_out : (x : Spot) → Seen t w x → (In l x → ⊥) → LastOver k l x
-    left_out x v out = go (place x v)
-      where
-        go : In l x ⊎ ((length l ≡ n) × ((y : Spot) → In l y → Outranks k y x)) → LastOver k l x
-        go (inl y) = absurd (out y)
-        go (inr y) = last_over_from_all k l x (omega arith) y.1
-
-    few : length l < n → (x : Spot) → Seen t w x → In l x
-    few lt x v = go (place x v)
-      where
-        go : In l x ⊎ ((length l ≡ n) × ((y : Spot) → In l y → Outranks k y x)) → In l x
-        go (inl y) = y
-        go (inr y) = absurd (omega arith)
-
-    needs : (r : Square) (u : Tree) → Part s t r u → Wanted k w n l r u → Numbered (names done) u
+    needs : (r : Square) (u : Tree) → Part s t r u → Wanted k w n l r u → Numbered (map name done) u
     needs r none p v = v
-    needs r (box i m a b c d) p v = go (st.0.cover e p v.0)
+    needs r (box i m a b c d) p v =
+        elim (st.0.cover e p v.0) [
+          | inl y ↦ in_map name done e y
+          | inr y ↦ let z = waits e y in
+              absurd (elim v.1 [ inl lt ↦ omega (arith, z.0) | inr reach ↦ not_both k L l m reach (last_over_from_all k l m (omega (arith, z.0)) z.1) ])
+        ]
       where
         e : Node
         e = record { square = r; number = i; mark = m; a = a; b = b; c = c; d = d }
 
-        never : (length l ≡ n) × ((x : Spot) → In l x → Outranks k x m) → (length l < n) ⊎ Reaches k l m → ⊥
-        never z (inl lt) = omega arith
-        never z (inr reach) = not_both k L l m reach (last_over_from_all k l m (omega arith) z.1)
-
-        go : In done e ⊎ ((g : Node) × In wait g × Part g.square (tree g) r (box i m a b c d)) → In (names done) i
-        go (inl y) = in_names done e y
-        go (inr y) = absurd (never (waits e y.0 y.1 y.2) v.1)
-
-    least : (S : List ℕ) → Justifies k s t w n l S → length done ≤ length S
-    least S j =
-        let le : length (names done) ≤ length S =
-        apart_shorter (names done) S once (λ i p. has i (from_names done i p)) in
-        let e = length_names done in
-        omega arith
-      where
-        want : (e : Node) → In done e → Dec (length l < n) → (length l < n) ⊎ Reaches k l e.mark
-        want e p (yes lt) = inl lt
-        want e p (no ge) = let most = st.1.most in inr (st.1.last (omega arith) e p)
-
-        has : (i : ℕ) → ((e : Node) × In done e × (e.number ≡ i)) → In S i
-        has i r =
-            let p = st.0.done_parts r.0 r.1 in
-            subst (λ (z : ℕ). In S z) r.2
-            (wanted_is_needed k L s t h w n l S j r.0.square (tree r.0) p.0 (p.1, want r.0 r.1 (dec_lt (length l) n)))
+    has : (S : List ℕ) → Justifies k s t w n l S → (i : ℕ) → ((e : Node) × In done e × (i ≡ e.number)) → In S i
+    has S j i r =
+        let p = st.0.done_parts r.0 r.1 in
+        let most = st.1.most in
+        let want : (length l < n) ⊎ Reaches k l r.0.mark =
+        elim (dec_lt (length l) n) [ yes lt ↦ inl lt | no ge ↦ inr (st.1.last (omega arith) r.0 r.1) ] in
+        subst (λ (z : ℕ). In S z) (sym r.2) (wanted_is_needed k L s t h w n l S j r.0.square (tree r.0) p.0 (p.1, want))

@@ -1,4 +1,4 @@
-use Rattle.treap.proofs.Runs.{some_draw_lem}
+use Rattle.treap.proofs.Counted.{some_draw_lem}
 use Rattle.treap.proofs.some_draw.Goals as goal
 
 pub returns : goal.returns
