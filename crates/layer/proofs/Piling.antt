@@ -7,7 +7,7 @@ use Rattle.treap.specs.Layers.{moved_square, floored, shifted, shift_refusal}
 use Rattle.treap.specs.Sums.{either}
 use Rattle.treap.specs.Piles as piles
 use Rattle.treap.proofs.Meanings.{shift_fits}
-use Rattle.treap.proofs.Summed.{one_floor_one_shift_lem}
+use Rattle.treap.proofs.Summed.{grows, one_floor_one_shift_lem}
 use Rattle.layer.specs.declared.pile.Layer.{Layer}
 use Rattle.layer.specs.declared.pile.Layer.TheVariants.{Shift}
 use Rattle.layer.specs.Piles.{layers_of, sum_of}
@@ -25,12 +25,6 @@ module _ (k : Kind) where
       let rest = same_square p (shifted r c m) (shifted r c n) (ap (moved_square r c) e) in
       let here : shift_refusal r c m ≡ shift_refusal r c n = ap (λ (s : Square). shift_refusal r c record { square = s; ceiling = m.ceiling; tree = m.tree }) e in
       λ z. either (here z) (rest z)
-
-  -- a sum only grows
-  grows : (s : piles.Sum) (p : List piles.Layer) → (s.rows ≤ (piles.summed_from k s p).rows) × (s.cols ≤ (piles.summed_from k s p).cols)
-  grows s [] = (omega arith, omega arith)
-  grows s (piles.floor_at g ∷ p) = grows (piles.sum_with k s (piles.floor_at g)) p
-  grows s (piles.shift_by r c ∷ p) = let e = grows (piles.sum_with k s (piles.shift_by r c)) p in (omega arith, omega arith)
 
   -- one shift and one floor of the sum do for a pile that is not refused
   pub as_summed : Laws k
@@ -56,7 +50,7 @@ module _ (k : Kind) where
       → (s.rows ≤ 65535) × (s.cols ≤ 65535)
   sum_small L p m h o s left e =
       let f = shift_fits _ _ m (as_summed L p m h o (piles.summed_from k s left) e).0 in
-      let u = grows s left in
+      let u = grows k s left in
       let v : 0 < 2 ^ m.square.level = pow_pos m.square.level in
       (omega (arith, f.0, u.0), omega (arith, f.1, u.1))
 
