@@ -3,7 +3,7 @@
 //! Its first argument is the number of marks. With the second argument `time` it also prints the microseconds of a draw.
 #![tactic(auto)]
 
-ghost use Rattle.std.specs.Prelude.{◌<◌, ◌≤◌};
+ghost use Rattle.std.specs.Prelude.{◌≡◌, ◌+◌, ◌*◌, ◌/◌, ◌%◌, ◌^◌, ◌<◌, ◌≤◌};
 
 use boxtree::mark::Mark;
 use boxtree::window::Window;
@@ -40,7 +40,8 @@ const NONE: Points = Points { value: 0 };
 // The next number modulo `bound`.
 fn below(numbers: &mut Numbers, bound: u32) -> u16
     requires { (0 < bound) × (bound ≤ 65536) }
-    ensures { result < bound }
+    ensures value { result ≡ (numbers.new.state / 2 ^ 33) % bound }
+    ensures state { numbers.new.state ≡ (numbers.old.state * 6364136223846793005 + 1442695040888963407) % 2 ^ 64 }
 {
     (numbers.next() % bound) as u16
 }
@@ -62,13 +63,12 @@ impl Task {
 
     // A window, where the numbers put it; one that is as large as the plan has one place only.
     fn window(self, numbers: &mut Numbers) -> Window {
-        let mut top = 0;
-        let mut left = 0;
-        if self.side < SIDE {
+        let (top, left) = if self.side < SIDE {
             let free = u32::from(SIDE - self.side);
-            top = below(numbers, free);
-            left = below(numbers, free);
-        }
+            (below(numbers, free), below(numbers, free))
+        } else {
+            (0, 0)
+        };
         Window {
             top,
             left,
@@ -111,6 +111,7 @@ fn main(rt: HostRuntime) -> io::Result<()> {
         Some(word) if word.as_str() == "time" => true,
         Some(_) => return usage(&rt),
     };
+    // Arrays and no `Vec`: the program allocates nothing.
     let mut places = [Place::vacant(NONE); PLACES];
     let mut plan = Plan::open(LEVEL, &mut places);
     fill(&mut plan, usize::from(marks));
@@ -166,7 +167,8 @@ struct Bench<'a> {
 }
 
 impl Bench<'_> {
-    // Draws the windows of a task, and prints what the draws come to.
+    // Draws the windows of a task, and prints what the draws come to, and the time of a draw if it is asked for: a word of the
+    // command line, which stands beside no value.
     fn report(&mut self, rt: &HostRuntime, task: Task, timed: bool) -> io::Result<()> {
         let start = Instant::now(rt)?;
         let Ok(totals) = self.draw_all(task) else {
@@ -179,7 +181,7 @@ impl Bench<'_> {
             task.side, task.k, totals.listed, totals.sum, totals.opened
         )?;
         if timed {
-            let tenths = time.as_micros() / 200;
+            let tenths = time.as_micros() * 10 / u128::from(WINDOWS);
             print!(rt; " microseconds {}.{}", tenths / 10, tenths % 10)?;
         }
         println!(rt)
@@ -191,6 +193,7 @@ impl Bench<'_> {
         let mut totals = Totals::default();
         let plan = self.plan;
         let queue = &mut *self.queue;
+        // The whole list first: a part of a field that is an array is not lent as such.
         let places = &mut self.list[..];
         let list = &mut places[..usize::from(task.k)];
         for _ in 0..WINDOWS {

@@ -33,7 +33,8 @@ impl fmt::Display for Reply {
 
 /// The first line of a draw: so many marks are drawn, for which so many boxes were opened: `drawn 1 opened 3`. A line for each
 /// mark follows.
-// Made by its fields and not by `From` of a draw's answer: what lines are written does not hang on box trees.
+// This and `MarkLine` are made by their fields and not by `From` of a draw's answer and of a mark: how lines are written does not
+// hang on box trees.
 #[derive(Clone, Copy, PartialEq, Eq, Debug)]
 pub struct DrawnLine {
     pub listed: usize,

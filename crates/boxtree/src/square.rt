@@ -16,7 +16,7 @@ pub struct Square {
 }
 
 impl Square {
-    // The side of its quadrants.
+    // The side of its quadrants. That it has them is asked and is no invariant: a square of side 1 is one too.
     fn half(self) -> u16
         requires { Divided (square_of self) }
         ensures is { result ≡ 2 ^ pred self.level }

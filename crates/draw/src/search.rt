@@ -17,7 +17,8 @@ use boxtree::window::Window;
 use grade::Grade;
 use queue::Queue;
 
-// Lists the mark in the next place if it lies in the window, and answers how many are listed.
+// Lists the mark in the next place if it lies in the window, and answers how many are listed. The list is lent and stays the
+// caller's, who is told the number, so that no struct keeps the two.
 fn enlist<T: BoxTree>(
     view: &View<'_, T>,
     mark: Mark<T::G>,

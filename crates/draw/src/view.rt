@@ -59,20 +59,22 @@ impl<'a, T: BoxTree> View<'a, T> {
         let side = 1u32 << square.level;
         let top = u32::from(square.top);
         let left = u32::from(square.left);
-        if top > u32::from(self.window.bottom) || top + side <= u32::from(self.window.top) {
-            return false;
-        }
-        left <= u32::from(self.window.right) && u32::from(self.window.left) < left + side
+        !(top > u32::from(self.window.bottom) || top + side <= u32::from(self.window.top))
+            && left <= u32::from(self.window.right)
+            && u32::from(self.window.left) < left + side
     }
 
     /// Whether the mark lies in the window.
     pub(crate) fn sees(&self, mark: Mark<T::G>) -> bool
         ensures { result ≡ seeing self.now.window (spot_of T.G.Grade.coded mark) }
     {
-        if mark.row < self.window.top || mark.row > self.window.bottom {
-            return false;
-        }
-        self.window.left <= mark.col && mark.col <= self.window.right
+        let Window {
+            top,
+            left,
+            bottom,
+            right,
+        } = self.window;
+        (top..=bottom).contains(&mark.row) && (left..=right).contains(&mark.col)
     }
 
     // The box as an entry, if its square and the window share a cell.

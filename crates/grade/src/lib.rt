@@ -55,6 +55,7 @@ pub fn read_back<G: Grade>(g: G) -> Option<G>
 pub fn step_back<G: Grade>(from: G, to: G) -> Option<G>
     ensures { codes G.Grade.coded result ≡ (if G.Grade.kind.above (G.Grade.coded from) (G.Grade.coded to) then Some (G.Grade.coded to) else None) }
 {
+    // That the two codes are lawful is told by the answers.
     let _ = from.code();
     let _ = to.code();
     from.back(from.step(to)?)

@@ -11,6 +11,7 @@ use refusals::Refusal;
 
 /// A grade of the lower class stands above, and of one class the later year does. Whatever the number `v` is, it is read
 /// as a lawful grade: class 1 + (v mod 2000) div 400, year 1700 + v mod 400.
+// It derives no equality and no `Debug`, which would tell the number and not the grade.
 #[derive(Clone, Copy)]
 pub struct Monument {
     v: u16,
@@ -35,7 +36,7 @@ impl Monument {
     pub fn new(class: u16, year: u16) -> Result<Monument, BadGrade>
         ensures { made_as result ≡ monument_made class year }
     {
-        if class < 1 || class > 5 || year < 1700 || year > 2099 {
+        if !(1..=5).contains(&class) || !(1700..=2099).contains(&year) {
             return Err(BadGrade);
         }
         Ok(Monument {

@@ -24,6 +24,7 @@ impl<'a, T: BoxTree> Floor<'a, T> {
         Floor { below, least }
     }
 
+    // The floor as a sieve, which answers for it; a trait has no way to hand all its questions on.
     fn sieve(&self) -> Sieve<'a, T>
         ensures below { result.below.now ≡ self.now.below.now }
         ensures least { result.least ≡ Some self.now.least }

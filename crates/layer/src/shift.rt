@@ -20,6 +20,7 @@ pub struct Shift<'a, T: BoxTree> {
 }
 
 /// Whether the tree can be shifted so far.
+// Rows and columns as two numbers, as callers have them; inside they are an `Offset`.
 pub fn check_shift<T: BoxTree>(below: &T, rows: u16, cols: u16) -> Result<(), PastEdge>
     ensures { shift_numbered result ≡ shift_refusal rows cols (T.BoxTree.shown below.now) }
 {

@@ -1,4 +1,5 @@
-//! Moves within a heap that fills its slice: the entries below place k are at 2k + 1 and 2k + 2.
+//! Moves within a heap that fills its slice: the entries below place k are at 2k + 1 and 2k + 2. A path of the heap is walked by
+//! its places, which no iterator gives.
 ghost use Rattle.std.specs.Prelude.{◌≡◌, ◌+◌, ◌*◌, ◌<◌, length, slice_index_or};
 ghost use Rattle.std.specs.List.Sorted.{IsPermutation};
 ghost use Rattle.queue.specs.Heaps.{Heap, Rising, Sinking, Best, up};

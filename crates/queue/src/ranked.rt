@@ -4,6 +4,7 @@ ghost use Rattle.queue.specs.Ranks.{Ranking};
 
 /// An entry of which it can be told whether it comes before another. Two entries of which neither outranks the other
 /// are level; they may still differ.
+// A trait of its own and no `Ord`: level entries need not be equal.
 pub trait Ranked: Copy {
     ghost over: { Self → Self → Bool };
 

@@ -1,4 +1,5 @@
-//! The heap that stands in the first `len` of some slots: an entry comes in, or the top goes out.
+//! The heap that stands in the first `len` of some slots: an entry comes in, or the top goes out. Functions of the two fields and no
+//! methods: they run while the queue's invariant is open.
 ghost use Rattle.std.specs.Prelude.{◌≡◌, ◌+◌, ◌-◌, ◌<◌, ◌≤◌, ◌∷◌, length, take, drop};
 ghost use Rattle.std.specs.List.Sorted.{IsPermutation};
 ghost use Rattle.queue.specs.Heaps.{Heap};

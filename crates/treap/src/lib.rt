@@ -1,4 +1,4 @@
-//! The theory of box trees. Each function carries one theorem as its contract.
+//! The theory of box trees. Each function carries one theorem as its contract, and answers 0, which says nothing.
 #![tactic(auto)]
 
 ghost use Rattle.treap.specs.Trees.{OneTree};
