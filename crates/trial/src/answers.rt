@@ -7,7 +7,7 @@ use plan::{Answer, Call, Plan, PlanRefusal};
 use refusals::Refusal;
 use std::process::Abort;
 
-// The number of a refusal, or none.
+// The number of a refusal, or none. Refusals by number: what the tests try is the numbers of the rules.
 pub(crate) fn refusal<T: Drop, E: Refusal>(answer: Result<T, E>) -> Option<u8> {
     answer.err().map(E::number)
 }
@@ -88,6 +88,7 @@ pub(crate) fn grades<const SIDE: usize>(
     plan: &Plan<'_, Points>,
 ) -> Result<[[Option<u16>; SIDE]; SIDE], PlanRefusal> {
     let mut grades = [[None; SIDE]; SIDE];
+    // a plan is asked in `u16`, which `enumerate` does not give
     for (row, cells) in (0..u16::MAX).zip(grades.iter_mut()) {
         for (col, cell) in (0..u16::MAX).zip(cells.iter_mut()) {
             *cell = plan.look(row, col)?.map(|grade| grade.value);

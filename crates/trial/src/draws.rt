@@ -27,7 +27,7 @@ pub(crate) fn as_numbers<G: Grade>(mark: Mark<G>) -> [u16; 3] {
 }
 
 // A window, and what a draw of it should give: the marks that are listed, and how many boxes are opened.
-#[derive(Clone, Copy)]
+#[derive(Clone, Copy, PartialEq, Eq, Debug)]
 pub(crate) struct Case<'a> {
     window: Window,
     marks: &'a [[u16; 3]],
@@ -47,8 +47,8 @@ impl Case<'_> {
 // What is lent to draws.
 #[derive(Drop)]
 pub(crate) struct Lent<'a, G: Grade> {
-    pub(crate) queue: &'a mut [Entry<G>],
-    pub(crate) list: &'a mut [Mark<G>],
+    queue: &'a mut [Entry<G>],
+    list: &'a mut [Mark<G>],
 }
 
 impl<G: Grade> Lent<'_, G> {
@@ -73,6 +73,32 @@ impl<G: Grade> Lent<'_, G> {
         assert_eq!(rt; drawn.opened, case.opened);
         assert_eq!(rt; self.listed(rt.alloc())?, expected);
         Ok(())
+    }
+}
+
+// A queue and a list of a test.
+#[derive(Drop)]
+pub(crate) struct Arrays<G: Grade> {
+    queue: [Entry<G>; 5],
+    list: [Mark<G>; 8],
+}
+
+impl<G: Grade> Arrays<G> {
+    // A queue for a plan of at most five marks, and a list that has this mark all over.
+    pub(crate) fn new(grade: G, mark: Mark<G>) -> Arrays<G> {
+        Arrays {
+            queue: [Entry::vacant(grade); 5],
+            list: [mark; 8],
+        }
+    }
+
+    pub(crate) fn lend(&mut self) -> Lent<'_, G> {
+        let queue = &mut self.queue;
+        let list = &mut self.list;
+        Lent {
+            queue: &mut queue[..],
+            list: &mut list[..],
+        }
     }
 }
 

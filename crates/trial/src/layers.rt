@@ -4,7 +4,6 @@ use crate::answers::*;
 use crate::draws::*;
 use crate::small::enter_marks;
 use boxtree::tree::BoxTree;
-use draw::Entry;
 use grade::monument::Monument;
 use layer::floor::Floor;
 use layer::pile::{Layer, Pile, check_pile};
@@ -60,10 +59,8 @@ fn points_are_drawn_through_layers(rt: HostRuntime) -> Result<(), Fail> {
     let mut places = [Place::vacant(points(0)); 5];
     let mut plan = Plan::open(2, &mut places);
     enter_marks(&rt, &mut plan);
-    let mut lent = Lent {
-        queue: &mut [Entry::vacant(points(0)); 5],
-        list: &mut [mark(9, 9, 9); 8],
-    };
+    let mut arrays = Arrays::new(points(0), mark(9, 9, 9));
+    let mut lent = arrays.lend();
     let moved = [
         [10, 23, 9],
         [12, 21, 7],
@@ -96,10 +93,8 @@ fn monuments_are_drawn_through_layers(rt: HostRuntime) -> Result<(), Fail> {
             (Call::Enter(monument(3, 3, 3, 1850)?), Ok(Done)),
         ],
     );
-    let mut lent = Lent {
-        queue: &mut [Entry::vacant(least); 5],
-        list: &mut [monument(9, 9, 5, 1700)?; 8],
-    };
+    let mut arrays = Arrays::new(least, monument(9, 9, 5, 1700)?);
+    let mut lent = arrays.lend();
     let moved = [
         [10, 23, 802],
         [12, 21, 1328],
@@ -115,10 +110,8 @@ fn points_are_drawn_through_a_pile(rt: HostRuntime) -> Result<(), Fail> {
     let mut places = [Place::vacant(points(0)); 5];
     let mut plan = Plan::open(2, &mut places);
     enter_marks(&rt, &mut plan);
-    let mut lent = Lent {
-        queue: &mut [Entry::vacant(points(0)); 5],
-        list: &mut [mark(9, 9, 9); 8],
-    };
+    let mut arrays = Arrays::new(points(0), mark(9, 9, 9));
+    let mut lent = arrays.lend();
     let layers = [
         Layer::Shift { rows: 9, cols: 2 },
         Layer::Floor(points(5)),
@@ -149,10 +142,8 @@ fn a_shift_ends_at_65535(rt: HostRuntime) -> Result<(), Fail> {
     assert_eq!(rt; refusal(check_shift(&plan, 0, 65533)), Some(18));
     assert_eq!(rt; refusal(check_shift(&plan, 65535, 65535)), Some(18));
     assert_eq!(rt; refusal(check_shift(&plan, 65532, 65532)), None);
-    let mut lent = Lent {
-        queue: &mut [Entry::vacant(points(0)); 5],
-        list: &mut [mark(9, 9, 9); 8],
-    };
+    let mut arrays = Arrays::new(points(0), mark(9, 9, 9));
+    let mut lent = arrays.lend();
     let moved = [
         [65532, 3, 9],
         [65534, 1, 7],

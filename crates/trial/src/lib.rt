@@ -1,4 +1,5 @@
 //! Trials of grades, plans, layers, draws and the lines of a book: what a user of them sees.
+//! Places and queues are arrays of a test, lent as a program lends them.
 #![tactic(auto)]
 
 #[cfg(test)]

@@ -5,6 +5,7 @@ use boxtree::square::Square;
 use draw::Entry;
 use grade::Grade;
 use queue::Queue;
+use std::process::Abort;
 use std::test::Fail;
 
 // The entry of a mark, numbered by its rank.
@@ -22,10 +23,10 @@ fn ranked<G: Grade>(rank: u32, mark: Mark<G>) -> Entry<G> {
 }
 
 // The numbers of three entries as a queue gives them, and what it gives then.
-fn popped<G: Grade>(slots: &mut [Entry<G>], entries: [Entry<G>; 3]) -> [Option<u32>; 4] {
+fn popped<G: Grade>(slots: &mut [Entry<G>], entries: &[Entry<G>; 3]) -> [Option<u32>; 4] {
     let mut queue = Queue::new(slots);
     for entry in entries {
-        let _ = queue.push(entry);
+        let _ = queue.push(*entry);
     }
     let mut numbers = [None; 4];
     for number in numbers.iter_mut() {
@@ -34,18 +35,20 @@ fn popped<G: Grade>(slots: &mut [Entry<G>], entries: [Entry<G>; 3]) -> [Option<u
     numbers
 }
 
+// Pushes three entries in each of the orders, and compares what a queue gives of them with their ranks, 0, 1 and 2.
+fn come_by_rank<G: Grade>(rt: &impl Abort, slots: &mut [Entry<G>], orders: &[[Entry<G>; 3]]) {
+    for entries in orders {
+        assert_eq!(rt; popped(slots, entries), [Some(0), Some(1), Some(2), None]);
+    }
+}
+
 #[test]
 fn points_come_by_rank(rt: HostRuntime) {
     let mut slots = [Entry::vacant(points(0)); 3];
     let a = ranked(0, mark(3, 3, 9));
     let b = ranked(1, mark(0, 1, 5));
     let c = ranked(2, mark(1, 0, 5));
-    for entries in [[a, b, c], [c, b, a], [b, c, a]] {
-        assert_eq!(rt;
-            popped(&mut slots, entries),
-            [Some(0), Some(1), Some(2), None]
-        );
-    }
+    come_by_rank(&rt, &mut slots, &[[a, b, c], [c, b, a], [b, c, a]]);
 }
 
 #[test]
@@ -54,11 +57,6 @@ fn monuments_come_by_rank(rt: HostRuntime) -> Result<(), Fail> {
     let b = ranked(1, monument(0, 1, 2, 2004)?);
     let c = ranked(2, monument(1, 0, 2, 2004)?);
     let mut slots = [c; 3];
-    for entries in [[a, b, c], [c, b, a], [b, c, a]] {
-        assert_eq!(rt;
-            popped(&mut slots, entries),
-            [Some(0), Some(1), Some(2), None]
-        );
-    }
+    come_by_rank(&rt, &mut slots, &[[a, b, c], [c, b, a], [b, c, a]]);
     Ok(())
 }

@@ -20,14 +20,13 @@ fn rank(mark: &Mark<Points>) -> (Reverse<u16>, u16, u16) {
 }
 
 fn inside(window: Window, mark: Mark<Points>) -> bool {
-    window.top <= mark.row
-        && mark.row <= window.bottom
-        && window.left <= mark.col
-        && mark.col <= window.right
+    (window.top..=window.bottom).contains(&mark.row)
+        && (window.left..=window.right).contains(&mark.col)
 }
 
 // A box of the tree: its number, its mark, and its square by the first row and column and the side.
-#[derive(Clone, Copy)]
+// The scan uses none of the library's squares, so that it is no copy of what it tries.
+#[derive(Clone, Copy, PartialEq, Eq, Debug)]
 struct Found {
     number: u32,
     mark: Mark<Points>,

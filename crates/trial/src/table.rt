@@ -26,13 +26,20 @@ impl<const SIDE: usize> Table<SIDE> {
     }
 
     // A cell, or the refusal of one that lies off the table.
-    fn cell(&mut self, row: u16, col: u16) -> Result<&mut Option<u16>, u8> {
+    fn cell(&self, row: u16, col: u16) -> Result<&Option<u16>, u8> {
+        let cells = self.cells.get(usize::from(row)).ok_or(4)?;
+        cells.get(usize::from(col)).ok_or(4)
+    }
+
+    // A cell to be changed, or the same refusal.
+    fn cell_mut(&mut self, row: u16, col: u16) -> Result<&mut Option<u16>, u8> {
         let cells = self.cells.get_mut(usize::from(row)).ok_or(4)?;
         cells.get_mut(usize::from(col)).ok_or(4)
     }
 
     // How many marks it has.
     fn count(&self) -> usize {
+        // tried: the count of a `flatten` of rows has no bound that a proof finds
         let mut marks = 0usize;
         for cells in &self.cells {
             marks = marks.saturating_add(cells.iter().flatten().count());
@@ -42,7 +49,7 @@ impl<const SIDE: usize> Table<SIDE> {
 
     fn enter(&mut self, mark: Mark<Points>) -> Result<Seen, u8> {
         let full = self.count() >= self.places;
-        let cell = self.cell(mark.row, mark.col)?;
+        let cell = self.cell_mut(mark.row, mark.col)?;
         if cell.is_some() {
             return Err(5);
         }
@@ -54,7 +61,7 @@ impl<const SIDE: usize> Table<SIDE> {
     }
 
     fn regrade(&mut self, mark: Mark<Points>) -> Result<Seen, u8> {
-        let cell = self.cell(mark.row, mark.col)?;
+        let cell = self.cell_mut(mark.row, mark.col)?;
         if cell.is_none() {
             return Err(6);
         }
@@ -63,10 +70,10 @@ impl<const SIDE: usize> Table<SIDE> {
     }
 
     fn strike(&mut self, row: u16, col: u16) -> Result<Seen, u8> {
-        self.cell(row, col)?.take().map(Graded).ok_or(6)
+        self.cell_mut(row, col)?.take().map(Graded).ok_or(6)
     }
 
-    fn look(&mut self, row: u16, col: u16) -> Result<Seen, u8> {
+    fn look(&self, row: u16, col: u16) -> Result<Seen, u8> {
         Ok(self.cell(row, col)?.map_or(Vacant, Graded))
     }
 
@@ -131,7 +138,7 @@ impl<const SIDE: usize> Twins<'_, SIDE> {
     }
 }
 
-// Numbers that look random and are the same in every run.
+// How a call is drawn from the numbers. They look random and are the same in every run.
 #[derive(Drop)]
 pub(crate) struct Dice {
     numbers: Numbers,
