@@ -1,18 +1,20 @@
 -- What an accepted and a refused call come to, and a plan that is opened.
-use Rattle.std.proofs.Common.{◌≡◌, ℕ, Bool, true, false, cond, ◌||◌, eqb, ltb, List, length, is_some, Some, None, Option, sym, refl, ap, subst, arith, ltb-false, le-ltb}
+use Rattle.std.proofs.Common.{◌≡◌, ℕ, Bool, true, false, cond, ◌||◌, eqb, ltb, List, length, is_some, Some, None, Option, Ok, sym, refl, ap, subst, arith, ltb-false, le-ltb}
+use Rattle.std.specs.Option.{ok_or}
 use Rattle.grade.specs.Kind.{Kind}
 use Rattle.treap.specs.Spots.{Spot}
-use Rattle.treap.specs.Trees.{Square}
+use Rattle.treap.specs.Trees.{Square, Tree, Shows}
 use Rattle.treap.specs.Sums.{one_if, grade_in}
 use Rattle.treap.specs.Ledgers.{open_refusal}
 use Rattle.treap.specs.Entries.{plan_square}
 use Rattle.treap.proofs.Cells.{shown_graded, free_ungraded}
 use Rattle.boxtree.specs.declared.mark.Mark.{Mark}
-use Rattle.boxtree.specs.Marks.{spots_of}
+use Rattle.boxtree.specs.Marks.{spot_of, spots_of}
 use Rattle.plan.specs.declared.place.Place.{Place}
+use Rattle.plan.specs.declared.refusal.PlanRefusal.{PlanRefusal}
 use Rattle.plan.specs.Places.{cells}
 use Rattle.plan.specs.Standing.{tree_in, Found, grade_of}
-use Rattle.plan.specs.Plans.{root, plan_tree, Shape}
+use Rattle.plan.specs.Plans.{root, plan_tree, on_plan, Shape, Marked}
 
 module _ {G : Type 0} {kind : Kind} {code : G → ℕ} {h n : ℕ} {ps : List (Place G)} (s : Shape kind code h n ps) where
   -- the grade of a cell is that of the mark that is found there
@@ -31,6 +33,23 @@ module _ {G : Type 0} {kind : Kind} {code : G → ℕ} {h n : ℕ} {ps : List (P
   pub found_taken : (row col : ℕ) (r : Option (Mark G)) → grade_in row col (plan_tree code h n ps) ≡ grade_of (spots_of code r) → is_some r ≡ is_some (grade_in row col (plan_tree code h n ps))
   found_taken row col None e = ap is_some (sym e)
   found_taken row col (Some m) e = ap is_some (sym e)
+
+  -- what is known of a cell of the plan once its mark is sought
+  pub located : (row col : ℕ) → on_plan h row col ≡ true → {v : Square} → v ≡ plan_square h → {o : Option ℕ} → o ≡ root n → (r : Option (Mark G)) → Found row col (tree_in v (cells code ps) o) (spots_of code r)
+      → Marked code (record { h = h; count = n; places = ps }) row col r
+  located row col on ev e r f =
+      let graded = cell_graded row col ev e (spots_of code r) f in
+      record {
+        on = on;
+        found = rw (ev, e) at f;
+        taken = found_taken row col r graded;
+        graded = graded;
+      }
+
+-- a mark that is found is shown
+pub found_shown : {G : Type 0} (code : G → ℕ) (row col : ℕ) (t : Tree) (r : Option (Mark G)) (m : Mark G) (e : PlanRefusal) → Ok m ≡ ok_or r e → Found row col t (spots_of code r) → Shows t (spot_of code m)
+found_shown code row col t None m e w f = absurd (cc w)
+found_shown code row col t (Some x) m e w f = let same : x ≡ m = cc in rw same at f.0
 
 -- a plan that may be opened is not too high and has not too many places
 pub neither_fits : (a b : Bool) (x y : ℕ) → cond a (Some x) (cond b (Some y) None) ≡ None → (a ≡ false) × (b ≡ false)

@@ -7,16 +7,20 @@
 --   ledger code p                the ledger that the plan shows
 --   Done                         an accepted call leaves a plan of this kind in the places, and the ledger that follows
 --   Kept p q r                   a refused call leaves the plan as it was
-use Rattle.std.specs.Prelude.{◌≡◌, ℕ, zero, suc, ◌^◌, ◌≤◌, Bool, ◌&&◌, List, length, Some, None, Ok, Err, Option, Result, nat_lt}
+--   Located code p row col r     r is the mark of the plan in the cell, or none where the cell is vacant, or that it lies off
+use Rattle.std.specs.Prelude.{◌≡◌, ℕ, zero, suc, ◌^◌, ◌≤◌, Bool, true, false, ◌&&◌, List, length, is_some, Some, None, Ok, Err, Option, Result, nat_lt}
 use Rattle.grade.specs.Kind.{Kind}
 use Rattle.treap.specs.Trees.{Tree, count, Ordered, Meaning}
 use Rattle.treap.specs.Sums.{one_if, held, Alone, ledger_of}
 use Rattle.treap.specs.Entries.{plan_square}
-use Rattle.treap.specs.Ledgers.{Ledger, Call, refusal, changed}
+use Rattle.treap.specs.Ledgers.{Ledger, Call, refusal, changed, taken}
+use Rattle.boxtree.specs.declared.mark.Mark.{Mark}
+use Rattle.boxtree.specs.Marks.{spots_of}
 use Rattle.plan.specs.declared.place.Place.{Place}
 use Rattle.plan.specs.declared.refusal.PlanRefusal.{PlanRefusal}
+use Rattle.plan.specs.declared.refusal.PlanRefusal.TheVariants.{Off}
 use Rattle.plan.specs.Places.{cells}
-use Rattle.plan.specs.Standing.{tree_in}
+use Rattle.plan.specs.Standing.{tree_in, Found, grade_of}
 
 pub record Layout (P : Type 0) : Type 0 where
   pub h : ℕ
@@ -69,3 +73,14 @@ pub record Done {G : Type 0} (kind : Kind) (code : G → ℕ) (h n : ℕ) (l : L
 abbrev pub Kept : {G : Type 0} {A : Type 0} → Layout (Place G) → Layout (Place G) → Result A PlanRefusal → Type 0
 Kept p q (Ok a) = Unit {0}
 Kept p q (Err e) = (q.h ≡ p.h) × (q.count ≡ p.count) × (q.places ≡ p.places)
+
+-- what is known of a cell that lies on the plan, and of the mark in it
+pub record Marked {G : Type 0} (code : G → ℕ) (p : Layout (Place G)) (row col : ℕ) (r : Option (Mark G)) : Type 0 where
+  pub on : on_plan p.h row col ≡ true
+  pub found : Found row col (shown code p).tree (spots_of code r)
+  pub taken : is_some r ≡ taken (ledger code p) row col
+  pub graded : (ledger code p).grade row col ≡ grade_of (spots_of code r)
+
+abbrev pub Located : {G : Type 0} → (G → ℕ) → Layout (Place G) → ℕ → ℕ → Result (Option (Mark G)) PlanRefusal → Type 0
+Located code p row col (Ok r) = Marked code p row col r
+Located code p row col (Err e) = (e ≡ Off) × (on_plan p.h row col ≡ false)

@@ -1,12 +1,11 @@
 //! The calls on a plan. A refused call leaves the plan and its places as they were.
-ghost use Rattle.std.specs.Prelude.{◌≡◌, ℕ, true, length, is_some, None};
-ghost use Rattle.boxtree.specs.Marks.{spot_of, spots_of};
+ghost use Rattle.std.specs.Prelude.{◌≡◌, ℕ, length, None};
+ghost use Rattle.boxtree.specs.Marks.{spot_of};
 ghost use Rattle.treap.specs.Trees.{Lawful, unnumbered};
 ghost use Rattle.treap.specs.Plants.{plant};
-ghost use Rattle.treap.specs.Ledgers.{open_refusal, blank, entries, taken, answer, next, enter as entering, regrade as regrading, strike as striking, look as looking};
+ghost use Rattle.treap.specs.Ledgers.{open_refusal, blank, entries, answer, next, enter as entering, regrade as regrading, strike as striking, look as looking};
 ghost use Rattle.plan.specs.Refusals.{numbered, done_or, graded_or, looked_up};
-ghost use Rattle.plan.specs.Standing.{Found, grade_of};
-ghost use Rattle.plan.specs.Plans.{Sound, ledger, shown, on_plan, Kept};
+ghost use Rattle.plan.specs.Plans.{Sound, ledger, shown, on_plan, Kept, Located};
 
 use crate::change::{put, root, take, whole};
 use crate::place::Place;
@@ -62,14 +61,14 @@ impl<G: Grade> Plan<'_, G> {
         cell.row < side && cell.col < side
     }
 
-    // Its mark in a cell that lies on it.
-    fn mark_in(&self, cell: Cell) -> Option<Mark<G>>
-        requires { on_plan self.now.h cell.row cell.col ≡ true }
-        ensures found { Found cell.row cell.col (shown G.Grade.coded self.now).tree (spots_of G.Grade.coded result) }
-        ensures taken { is_some result ≡ taken (ledger G.Grade.coded self.now) cell.row cell.col }
-        ensures graded { (ledger G.Grade.coded self.now).grade cell.row cell.col ≡ grade_of (spots_of G.Grade.coded result) }
+    // Its mark in a cell, or none where the cell is vacant. Refused where the cell lies off it.
+    fn find(&self, cell: Cell) -> Result<Option<Mark<G>>, PlanRefusal>
+        ensures { Located G.Grade.coded self.now cell.row cell.col result }
     {
-        seek(self.places, root(self.count), whole(self.h), cell)
+        if !self.covers(cell) {
+            return Err(PlanRefusal::Off);
+        }
+        Ok(seek(self.places, root(self.count), whole(self.h), cell))
     }
 
     /// Strikes all marks, and makes the side 2 to the power `h`.
@@ -87,11 +86,7 @@ impl<G: Grade> Plan<'_, G> {
         ensures followed { ledger G.Grade.coded self.new ≡ next (ledger G.Grade.coded self.old) (entering (spot_of G.Grade.coded mark)) }
         ensures kept { Kept self.old self.new result }
     {
-        let cell = mark.cell();
-        if !self.covers(cell) {
-            return Err(PlanRefusal::Off);
-        }
-        if self.mark_in(cell).is_some() {
+        if self.find(mark.cell())?.is_some() {
             return Err(PlanRefusal::Taken);
         }
         if self.boxes() as usize >= self.places() {
@@ -121,13 +116,7 @@ impl<G: Grade> Plan<'_, G> {
         ensures followed { ledger G.Grade.coded self.new ≡ next (ledger G.Grade.coded self.old) (striking row col) }
         ensures kept { Kept self.old self.new result }
     {
-        let cell = Cell { row, col };
-        if !self.covers(cell) {
-            return Err(PlanRefusal::Off);
-        }
-        let Some(mark) = self.mark_in(cell) else {
-            return Err(PlanRefusal::Vacant);
-        };
+        let mark = self.find(Cell { row, col })?.ok_or(PlanRefusal::Vacant)?;
         take(self.places, self.h, self.count, mark);
         self.count -= 1;
         Ok(mark.grade)
@@ -137,11 +126,7 @@ impl<G: Grade> Plan<'_, G> {
     pub fn look(&self, row: u16, col: u16) -> Result<Option<G>, PlanRefusal>
         ensures { looked_up G.Grade.coded result ≡ answer (ledger G.Grade.coded self.now) (looking row col) }
     {
-        let cell = Cell { row, col };
-        if !self.covers(cell) {
-            return Err(PlanRefusal::Off);
-        }
-        Ok(self.mark_in(cell).map(|mark| mark.grade))
+        Ok(self.find(Cell { row, col })?.map(|mark| mark.grade))
     }
 
     /// How many marks the plan has. What it shows is lawful, and is the box tree of its ledger's marks.
