@@ -30,7 +30,7 @@ pub(crate) fn whole(h: u32) -> Square
 pub(crate) fn root(count: u16) -> Option<u16>
     ensures { result ≡ root_at count }
 {
-    if count == 0 { None } else { Some(0) }
+    (count > 0).then_some(0)
 }
 
 // Puts a mark of a vacant cell into the places of a plan, where one is left: it gets the first that holds nothing.

@@ -20,9 +20,8 @@ impl Link {
         requires { Below 65535 place }
         ensures { link_of result ≡ place }
     {
-        match place {
-            None => Link { next: 0 },
-            Some(i) => Link { next: i + 1 },
+        Link {
+            next: place.map_or(0, |i| i + 1),
         }
     }
 
@@ -85,7 +84,7 @@ pub(crate) fn read<G: Grade>(places: &[Place<G>], i: u16) -> Place<G>
     requires { i < length places.now }
     ensures { cells G.Grade.coded places.now i ≡ cell_of G.Grade.coded result }
 {
-    places[i as usize]
+    places[usize::from(i)]
 }
 
 pub(crate) fn write<G: Grade>(places: &mut [Place<G>], i: u16, place: Place<G>)
@@ -93,5 +92,5 @@ pub(crate) fn write<G: Grade>(places: &mut [Place<G>], i: u16, place: Place<G>)
     ensures there { cells G.Grade.coded places.new i ≡ cell_of G.Grade.coded place }
     ensures elsewhere { (n : ℕ) → (n ≢ i) → cells G.Grade.coded places.new n ≡ cells G.Grade.coded places.old n }
 {
-    places[i as usize] = place;
+    places[usize::from(i)] = place;
 }

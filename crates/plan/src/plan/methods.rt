@@ -89,7 +89,7 @@ impl<G: Grade> Plan<'_, G> {
         if self.find(mark.cell())?.is_some() {
             return Err(PlanRefusal::Taken);
         }
-        if self.boxes() as usize >= self.places() {
+        if self.marks() >= self.places() {
             return Err(PlanRefusal::Full);
         }
         put(self.places, self.h, self.count, mark);
