@@ -1,5 +1,5 @@
 -- A mark that is taken out of a tree is the root's, and the best mark right below moves up, or it is taken out of its quadrant.
-use Rattle.std.proofs.Common.{◌≡◌, ℕ, zero, suc, ◌+◌, ◌<◌, ◌≤◌, true, false, eqb, ◌⊎◌, Some, None, Option, sym, refl, ap, ◌∙◌, subst, inl, inr, arith}
+use Rattle.std.proofs.Common.{◌≡◌, ℕ, zero, suc, ◌+◌, ◌<◌, ◌≤◌, true, false, eqb, ◌⊎◌, Some, None, Option, IsSome, sym, refl, ap, ◌∙◌, subst, inl, inr, arith}
 use Rattle.std.proofs.lemmas.Bool.{false≢true}
 use Rattle.grade.specs.Kind.{Kind, Laws}
 use Rattle.treap.specs.Spots.{Spot, Outranks}
@@ -139,6 +139,11 @@ module _ {k : Kind} (L : Laws k) {s : Square} {bound : ℕ} (at : ℕ → Cell) 
                 outside = λ n z. rest n (λ e. omega (arith, one_is n i e)) ∙ lifted.outside n (omega (arith, held_part n));
                 root = inr refl;
               }
+
+-- a tree that shows a mark has a root
+pub rooted : (s : Square) (at : ℕ → Cell) (root : Option ℕ) (m : Spot) → Shows (tree_in s at root) m → IsSome root
+rooted s at None m shows = absurd shows
+rooted s at (Some i) m shows = refl
 
 -- a mark m that the tree shows, whose root is in the place i, which is p
 module _ {k : Kind} (L : Laws k) {s : Square} {bound : ℕ} (at : ℕ → Cell) {root : Option ℕ} (stands : Stands k s bound (tree_in s at root)) (m : Spot)

@@ -108,25 +108,18 @@ pub(crate) fn lift<G: Grade>(
     requires shown { Shows (tree_in (square_of square) (cells G.Grade.coded places.old) root) (spot_of G.Grade.coded mark) }
     ensures { Lifted G.Grade.kind (square_of square) (spot_of G.Grade.coded mark) (cells G.Grade.coded places.old) root (cells G.Grade.coded places.new) result.root result.place }
 {
-    match root {
-        None => Freed {
-            root: None,
-            place: 0,
-        },
-        Some(i) => {
-            let here = read(places, i);
-            let cell = mark.cell();
-            if stands_in(here.mark, cell) {
-                pull(places, i, square)
-            } else {
-                let q = square.quadrant_at(cell);
-                let freed = lift(places, here.link(q), square.part(q), mark);
-                write(places, i, here.relinked(here.mark, q, freed.root));
-                Freed {
-                    root: Some(i),
-                    place: freed.place,
-                }
-            }
-        }
+    // a tree that shows a mark has a root
+    let i = root.unwrap();
+    let here = read(places, i);
+    let cell = mark.cell();
+    if stands_in(here.mark, cell) {
+        return pull(places, i, square);
+    }
+    let q = square.quadrant_at(cell);
+    let freed = lift(places, here.link(q), square.part(q), mark);
+    write(places, i, here.relinked(here.mark, q, freed.root));
+    Freed {
+        root: Some(i),
+        place: freed.place,
     }
 }
