@@ -34,6 +34,7 @@ pub(crate) fn root(count: u16) -> Option<u16>
 }
 
 // Puts a mark of a vacant cell into the places of a plan, where one is left: it gets the first that holds nothing.
+// A function of the fields and no method: it runs while the plan's invariant is open.
 pub(crate) fn put<G: Grade>(places: &mut [Place<G>], h: u32, count: u16, mark: Mark<G>)
     requires shape { Shape G.Grade.kind G.Grade.coded h count places.old }
     requires on { on_plan h mark.row mark.col ≡ true }
@@ -48,6 +49,7 @@ pub(crate) fn put<G: Grade>(places: &mut [Place<G>], h: u32, count: u16, mark: M
 
 // Takes a mark of a plan out of its places. The last box moves into the place that is free then, so that the boxes fill the
 // places before it again.
+// A function of the fields and no method: it runs while the plan's invariant is open.
 pub(crate) fn take<G: Grade>(places: &mut [Place<G>], h: u32, count: u16, mark: Mark<G>)
     requires shape { Shape G.Grade.kind G.Grade.coded h count places.old }
     requires shown { Shows (plan_tree G.Grade.coded h count places.old) (spot_of G.Grade.coded mark) }

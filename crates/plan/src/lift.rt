@@ -15,7 +15,7 @@ use boxtree::quadrant::Quadrant;
 use boxtree::square::Square;
 use grade::Grade;
 
-// A box right below another: its quadrant, its place and its mark.
+// A box right below another: its quadrant, its place and its mark. Nothing compares or prints it.
 #[derive(Clone, Copy)]
 pub(crate) struct Child<G> {
     pub(crate) quadrant: Quadrant,
@@ -64,6 +64,7 @@ fn best_child<G: Grade>(places: &[Place<G>], here: Place<G>) -> Option<Child<G>>
 }
 
 // What is left of a tree once a mark is taken out of it: the place of its root, and the place that is now free.
+// Nothing compares or prints it.
 #[derive(Clone, Copy)]
 pub(crate) struct Freed {
     pub(crate) root: Option<u16>,

@@ -10,12 +10,14 @@ use grade::Grade;
 
 // The place of a box, or none, in 16 bits: 0 is none, and any other number is one more than the place. An `Option<u16>` would take
 // twice as many, and a box that owns those below it would need a heap, of which the library has none.
+// Nothing compares or prints it.
 #[derive(Clone, Copy)]
 pub(crate) struct Link {
     next: u16,
 }
 
 impl Link {
+    // The link to a place, or to none.
     pub(crate) fn new(place: Option<u16>) -> Link
         requires { Below 65535 place }
         ensures { link_of result ≡ place }
@@ -25,6 +27,7 @@ impl Link {
         }
     }
 
+    // The place that it leads to, or none.
     pub(crate) fn place(self) -> Option<u16>
         ensures { result ≡ link_of self }
     {
@@ -33,10 +36,11 @@ impl Link {
 }
 
 /// A place of a plan. The plan alone writes and reads it.
+// Nothing compares or prints it.
 #[derive(Clone, Copy)]
 pub struct Place<G> {
     pub(crate) mark: Mark<G>,
-    // of its quadrants, by their indices
+    // the places of the boxes right below, by the index of their quadrant
     pub(crate) links: [Link; 4],
 }
 
@@ -80,6 +84,7 @@ impl<G: Grade> Place<G> {
     }
 }
 
+// What the place `i` holds.
 pub(crate) fn read<G: Grade>(places: &[Place<G>], i: u16) -> Place<G>
     requires { i < length places.now }
     ensures { cells G.Grade.coded places.now i ≡ cell_of G.Grade.coded result }
@@ -87,6 +92,7 @@ pub(crate) fn read<G: Grade>(places: &[Place<G>], i: u16) -> Place<G>
     places[usize::from(i)]
 }
 
+// Makes `place` what the place `i` holds, and leaves the others as they are.
 pub(crate) fn write<G: Grade>(places: &mut [Place<G>], i: u16, place: Place<G>)
     requires { i < length places.old }
     ensures there { cells G.Grade.coded places.new i ≡ cell_of G.Grade.coded place }

@@ -10,6 +10,7 @@ pub mod methods;
 #[derive(Drop)]
 pub struct Plan<'a, G: Grade> {
     pub(crate) h: u32,
+    // lent places and how many are in use, and no `Vec`: the library allocates nothing
     pub(crate) count: u16,
     pub(crate) places: &'a mut [Place<G>],
 }

@@ -15,7 +15,7 @@ pub(crate) fn stands_in<G: Grade>(m: Mark<G>, cell: Cell) -> bool
     cell == m.cell()
 }
 
-// Two marks, the one that outranks the other first.
+// Two marks, the one that outranks the other first. Nothing compares or prints them.
 #[derive(Clone, Copy)]
 pub(crate) struct Ranking<G> {
     pub(crate) up: Mark<G>,

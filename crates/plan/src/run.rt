@@ -16,7 +16,9 @@ use grade::Grade;
 pub enum Call<G> {
     Enter(Mark<G>),
     Regrade(Mark<G>),
+    // a row and a column, as callers have them; inside, a `Cell`
     Strike(u16, u16),
+    // as in `Strike`
     Look(u16, u16),
 }
 
@@ -45,7 +47,7 @@ impl<G: Grade> Plan<'_, G> {
     }
 }
 
-// The call `i`, if there are so many. A function of its own, so that a wrong call is refused here.
+// The call `i`, or none where there are fewer calls. A function of its own, whose contract alone tells a wrong call.
 fn call_at<G: Copy>(calls: &[Call<G>], i: usize) -> Option<Call<G>>
     ensures { result ≡ slice_get calls.now i }
 {
@@ -62,7 +64,7 @@ pub fn carry_out<G: Grade>(
     ensures count { result ≡ min (length calls.now) (length answers.old) }
     ensures ran { Ran G.Grade.kind G.Grade.coded (ledger G.Grade.coded plan.old) calls.now answers.old answers.new plan.new }
 {
-    // by an index, since of what a `zip` with `iter_mut` writes nothing is known
+    // asked by index: what `zip` with `iter_mut` writes is not known to a proof
     for (i, answer) in answers.iter_mut().enumerate() {
         let Some(call) = call_at(calls, i) else {
             break;

@@ -13,6 +13,7 @@ use grade::Grade;
 
 // Lets a mark sink into the tree whose root is in a place, and answers where the root then is. In each box on the way the
 // better mark stays and the other goes on into its quadrant; the last one gets the place `fresh`.
+// Places, root and square are no struct: each step down has another root and square, and it would be made anew at each.
 pub(crate) fn sink<G: Grade>(
     places: &mut [Place<G>],
     root: Option<u16>,

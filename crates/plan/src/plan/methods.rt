@@ -44,7 +44,7 @@ impl<'a, G: Grade> Plan<'a, G> {
 }
 
 impl<G: Grade> Plan<'_, G> {
-    // How many boxes its tree has: as many as its ledger has marks.
+    // How many boxes its tree has: as many as its ledger has marks. `sound` tells callers the invariant.
     pub(crate) fn boxes(&self) -> u16
         ensures is { result ≡ self.now.count }
         ensures sound { Sound G.Grade.kind G.Grade.coded self.now }
@@ -103,7 +103,7 @@ impl<G: Grade> Plan<'_, G> {
         ensures followed { ledger G.Grade.coded self.new ≡ next (ledger G.Grade.coded self.old) (regrading (spot_of G.Grade.coded mark)) }
         ensures kept { Kept self.old self.new result }
     {
-        // there are no more marks than places
+        // that there are no more marks than places is told by an answer
         let _ = self.boxes();
         self.strike(mark.row, mark.col)?;
         self.enter(mark)
@@ -116,6 +116,7 @@ impl<G: Grade> Plan<'_, G> {
         ensures followed { ledger G.Grade.coded self.new ≡ next (ledger G.Grade.coded self.old) (striking row col) }
         ensures kept { Kept self.old self.new result }
     {
+        // a row and a column, as callers have them; inside, a `Cell`
         let mark = self.find(Cell { row, col })?.ok_or(PlanRefusal::Vacant)?;
         take(self.places, self.h, self.count, mark);
         self.count -= 1;
@@ -126,6 +127,7 @@ impl<G: Grade> Plan<'_, G> {
     pub fn look(&self, row: u16, col: u16) -> Result<Option<G>, PlanRefusal>
         ensures { looked_up G.Grade.coded result ≡ answer (ledger G.Grade.coded self.now) (looking row col) }
     {
+        // a row and a column, as callers have them; inside, a `Cell`
         Ok(self.find(Cell { row, col })?.map(|mark| mark.grade))
     }
 
