@@ -7,7 +7,7 @@
 set -uo pipefail
 dir="$(dirname "$0")/.."
 if [ "${1:-}" = -C ]; then dir=$2; shift 2; fi
-cd "$dir"
+cd "$dir" || exit 1
 
 src() { find crates -path '*/src/*' -name '*.rt' -not -path '*/out/*' | sort; }
 lines() { src | xargs grep -nE "$1"; }
