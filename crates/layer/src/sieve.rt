@@ -35,11 +35,19 @@ impl<T: BoxTree> BoxTree for Sieve<'_, T> {
     }
 
     fn root(&self) -> Option<u32> {
+        // without a floor the tree below is asked this alone
+        if self.least.is_none() {
+            return self.below.root();
+        }
         let b = self.below.root()?;
         self.mark(b).is_ok().then_some(b)
     }
 
     fn child(&self, b: u32, q: u8) -> Result<Option<u32>, Absent> {
+        // as in `root`
+        if self.least.is_none() {
+            return self.below.child(b, q);
+        }
         let m = self.below.mark(b)?;
         if !self.leaves(m) {
             return Err(Absent);
