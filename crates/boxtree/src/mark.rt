@@ -1,6 +1,6 @@
 //! A mark: a cell of the grid, and the grade that stands there.
 ghost use Rattle.std.specs.Prelude.{◌≡◌, Decides};
-ghost use Rattle.treap.specs.Spots.{Outranks};
+ghost use Rattle.treap.specs.Spots.{Before, Outranks};
 ghost use Rattle.boxtree.specs.Marks.{spot_of};
 
 use crate::cell::Cell;
@@ -36,7 +36,14 @@ impl<G: Grade> Mark<G> {
         } else if !self.grade.above(other.grade) {
             false
         } else {
-            self.cell() < other.cell()
+            self.before(other)
         }
+    }
+
+    // Whether its cell comes before the other mark's. A function of its own, whose contract alone tells a wrong order of cells.
+    fn before(self, other: Mark<G>) -> bool
+        ensures { Decides result (Before (spot_of G.Grade.coded self) (spot_of G.Grade.coded other)) }
+    {
+        self.cell() < other.cell()
     }
 }

@@ -1,6 +1,4 @@
-use Rattle.std.proofs.Common.{sym, Decides, arith}
-use Rattle.std.proofs.lemmas.Bool.Decides.{nat_tests}
-use Rattle.treap.specs.Spots.{Before}
+use Rattle.std.proofs.Common.{sym}
 use Rattle.boxtree.specs.Marks.{spot_of}
 use Rattle.boxtree.proofs.Ranking.{stands_above, stands_below, by_cell}
 use Rattle.boxtree.proofs.mark.Mark.outranks.Goals as goal
@@ -15,7 +13,5 @@ returns-then-not-above-2 g c =
 
 pub returns-else-not-above-2 : goal.returns-else-not-above-2
 returns-else-not-above-2 g c =
-    let m = spot_of g.G.Grade.coded c.args.self in
-    let n = spot_of g.G.Grade.coded c.args.other in
-    let d : Decides c.lt.result (Before m n) = grind (arith, nat_tests) in
-    by_cell g.G.Grade.kind g.met.G.Grade.laws m n (sym c.if-not-above-2.ensures) (sym c.if-not-above.ensures) c.lt.result d
+    by_cell g.G.Grade.kind g.met.G.Grade.laws (spot_of g.G.Grade.coded c.args.self) (spot_of g.G.Grade.coded c.args.other)
+    (sym c.if-not-above-2.ensures) (sym c.if-not-above.ensures) c.before-else-not-above-2.result c.before-else-not-above-2.ensures
