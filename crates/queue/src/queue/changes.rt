@@ -1,5 +1,6 @@
 //! The calls that change a queue.
 ghost use Rattle.std.specs.Prelude.{◌≡◌, ◌+◌, length, drop, is_some, is_ok, IfErr, Ok, if◌then◌else◌, nat_lt};
+ghost use Rattle.queue.specs.Heaps.{Heap};
 ghost use Rattle.queue.specs.Waiting.{Unfilled, Pushed, Popped, Fewer, room};
 
 use crate::queue::Queue;
@@ -17,6 +18,7 @@ impl<E: Ranked> Queue<'_, E> {
         ensures held { Pushed entry result self.old self.new }
         ensures fits { Unfilled self.old → Pushed entry (Ok tt) self.old self.new }
         ensures spare { self.new.spare ≡ drop (if is_ok result then 1 else 0) self.old.spare }
+        ensures heap { Heap E.over self.new.held (length self.new.held) }
     {
         if self.len == self.slots.len() {
             return Err(entry);
@@ -33,6 +35,7 @@ impl<E: Ranked> Queue<'_, E> {
         ensures len { Fewer result (length self.old.held) (length self.new.held) }
         ensures held { Popped E.over result self.old self.new }
         ensures spare { drop (if is_some result then 1 else 0) self.new.spare ≡ self.old.spare }
+        ensures heap { Heap E.over self.new.held (length self.new.held) }
     {
         if self.len == 0 {
             return None;

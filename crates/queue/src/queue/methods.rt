@@ -1,5 +1,6 @@
 //! A new queue, and what is asked of one.
 ghost use Rattle.std.specs.Prelude.{◌≡◌, ◌↔◌, IsTrue, [], length};
+ghost use Rattle.queue.specs.Heaps.{Heap};
 ghost use Rattle.queue.specs.Waiting.{room};
 
 use crate::queue::Queue;
@@ -11,6 +12,7 @@ impl<'a, E: Ranked> Queue<'a, E> {
         ensures empty { result.held ≡ [] }
         ensures room { room result ≡ length slots.old }
         ensures spare { result.spare ≡ slots.old }
+        ensures heap { Heap E.over result.held (length result.held) }
     {
         Queue { slots, len: 0 }
     }
