@@ -30,10 +30,11 @@ pub fn check_open(h: u32, places: usize) -> Result<(), PlanRefusal>
 }
 
 impl<'a, G: Grade> Plan<'a, G> {
-    /// A plan with no marks, over places that are lent to it.
+    /// A plan with no marks, over places that are lent to it. The places stay as they were.
     pub fn open(h: u32, places: &'a mut [Place<G>]) -> Plan<'a, G>
         requires { open_refusal h (length places.old) ≡ None }
-        ensures { ledger G.Grade.coded result ≡ blank h (length places.old) }
+        ensures blank { ledger G.Grade.coded result ≡ blank h (length places.old) }
+        ensures places { result.places ≡ places.old }
     {
         Plan {
             h,
@@ -71,10 +72,11 @@ impl<G: Grade> Plan<'_, G> {
         Ok(seek(self.places, root(self.count), whole(self.h), cell))
     }
 
-    /// Strikes all marks, and makes the side 2 to the power `h`.
+    /// Strikes all marks, and makes the side 2 to the power `h`. The places stay as they were.
     pub fn reopen(&mut self, h: u32)
         requires { open_refusal h (length self.old.places) ≡ None }
-        ensures { ledger G.Grade.coded self.new ≡ blank h (length self.old.places) }
+        ensures blank { ledger G.Grade.coded self.new ≡ blank h (length self.old.places) }
+        ensures places { self.new.places ≡ self.old.places }
     {
         self.h = h;
         self.count = 0;
