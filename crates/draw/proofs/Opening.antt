@@ -1,9 +1,10 @@
 -- The boxes right below a box come in one by one.
-use Rattle.std.proofs.Common.{◌≡◌, ℕ, zero, suc, ◌+◌, ◌<◌, ◌≤◌, true, List, [], ◌∷◌, ◌++◌, map, length, get_or, set, is_some, Some, None, Option, sym, refl, ap, ◌∙◌, subst, add-one, arith}
+use Rattle.std.proofs.Common.{◌≡◌, ℕ, zero, suc, ◌+◌, ◌<◌, ◌≤◌, true, List, [], ◌∷◌, ◌++◌, map, length, get_or, set, take, is_some, Some, None, Option, sym, refl, ap, ◌∙◌, subst, add-one, arith}
 use lib.ListN.{length-map, get_or-map}
 use lib.Seq.{map-set}
 use Rattle.std.specs.List.Sorted.{IsPermutation, apply_swaps, SwapsInRange}
 use Rattle.std.specs.List.{swap}
+use Rattle.std.proofs.lemmas.List.{length-take-le, get_or-take}
 use Rattle.std.proofs.lemmas.List.Sorted.{IsPermutation-refl, IsPermutation-trans, IsPermutation-cons, sum_by-IsPermutation}
 use Rattle.std.proofs.lemmas.List.Sums.{sum_by-cons, sum_by-append}
 use Rattle.treap.specs.Trees.{Quadrant, tl, tr, bl, br, index, Square, quadrant, Tree, sub, count}
@@ -62,6 +63,13 @@ index_at (suc zero) d h = refl
 index_at (suc (suc zero)) d h = refl
 index_at (suc (suc (suc zero))) d h = refl
 index_at (suc (suc (suc (suc k)))) d h = absurd (omega arith)
+
+-- and so do the first n of them
+pub index_within : (n k : ℕ) (d : boxtree.Quadrant) → n ≤ 4 → k < length (take n (TopLeft ∷ (TopRight ∷ (BottomLeft ∷ (BottomRight ∷ []))))) → index (quadrant_of (get_or (take n (TopLeft ∷ (TopRight ∷ (BottomLeft ∷ (BottomRight ∷ []))))) k d)) ≡ k
+index_within n k d le h =
+    let e = length-take-le n (TopLeft ∷ (TopRight ∷ (BottomLeft ∷ (BottomRight ∷ [])))) le in
+    ap (λ (q : boxtree.Quadrant). index (quadrant_of q)) (get_or-take n (TopLeft ∷ (TopRight ∷ (BottomLeft ∷ (BottomRight ∷ [])))) k d (omega arith))
+    ∙ index_at k d (omega arith)
 
 -- the boxes right below f that touch the window have come in
 pub record Opened (w : Window) (f : Node) (before after : List Node) : Type 0 where

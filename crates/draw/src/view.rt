@@ -42,12 +42,11 @@ impl<'a, T: BoxTree> Model for View<'a, T> {
 
 impl<'a, T: BoxTree> View<'a, T> {
     pub(crate) fn new(tree: &'a T, window: Window) -> View<'a, T>
-        requires { Upright (window_of window) }
+        requires upright { Upright (window_of window) }
+        requires lawful { Lawful T.G.Grade.kind (T.BoxTree.shown tree.now) }
         ensures tree { result.tree ≡ tree.now }
         ensures window { result.window ≡ window_of window }
     {
-        // That the tree is lawful is told by the answer to a question.
-        let _ = tree.ceiling();
         View { tree, window }
     }
 
@@ -110,6 +109,19 @@ impl<'a, T: BoxTree> View<'a, T> {
         self.look(number, entry.square.part(q))
     }
 
+    // Puts the boxes in the first `n` quadrants of the entry's box that touch the window into the queue.
+    fn open_first(&self, top: Entry<T::G>, waiting: &mut Queue<Entry<T::G>>, n: usize)
+        requires part { Part (T.BoxTree.shown self.now.tree).square (T.BoxTree.shown self.now.tree).tree (square_of top.square) (tree_of (node T.G.Grade.coded (T.BoxTree.shown self.now.tree).tree top)) }
+        requires quadrants { n ≤ 4 }
+        requires place { count (tree_of (node T.G.Grade.coded (T.BoxTree.shown self.now.tree).tree top)) + weight (nodes T.G.Grade.coded (T.BoxTree.shown self.now.tree).tree waiting.old.held) ≤ room waiting.old }
+        ensures room { room waiting.new ≡ room waiting.old }
+        ensures held { Opening self.now.window (node T.G.Grade.coded (T.BoxTree.shown self.now.tree).tree top) n (nodes T.G.Grade.coded (T.BoxTree.shown self.now.tree).tree waiting.old.held) (nodes T.G.Grade.coded (T.BoxTree.shown self.now.tree).tree waiting.new.held) }
+    {
+        for q in &Quadrant::ALL[..n] {
+            put(waiting, self.child(top, *q));
+        }
+    }
+
     /// Puts the boxes right below the entry's that touch the window into the queue.
     pub(crate) fn open(&self, top: Entry<T::G>, waiting: &mut Queue<Entry<T::G>>)
         requires part { Part (T.BoxTree.shown self.now.tree).square (T.BoxTree.shown self.now.tree).tree (square_of top.square) (tree_of (node T.G.Grade.coded (T.BoxTree.shown self.now.tree).tree top)) }
@@ -117,9 +129,7 @@ impl<'a, T: BoxTree> View<'a, T> {
         ensures room { room waiting.new ≡ room waiting.old }
         ensures held { Opening self.now.window (node T.G.Grade.coded (T.BoxTree.shown self.now.tree).tree top) 4 (nodes T.G.Grade.coded (T.BoxTree.shown self.now.tree).tree waiting.old.held) (nodes T.G.Grade.coded (T.BoxTree.shown self.now.tree).tree waiting.new.held) }
     {
-        for q in Quadrant::ALL {
-            put(waiting, self.child(top, q));
-        }
+        self.open_first(top, waiting, 4);
     }
 }
 

@@ -2,7 +2,7 @@ use Rattle.std.proofs.Common.{◌≡◌}
 use Rattle.queue.specs.Waiting.{room}
 use Rattle.draw.specs.Nodes.{node, nodes}
 use Rattle.draw.specs.Opened.{Opening}
-use Rattle.draw.proofs.view.View.open.Given as goal
+use Rattle.draw.proofs.view.View.open_first.Given as goal
 
 abbrev pub invariant-loop-q : goal.invariant-loop-q
 invariant-loop-q g l = record {
