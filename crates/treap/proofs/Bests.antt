@@ -18,7 +18,7 @@ abbrev pub Outdone : Kind → ℕ → List Spot → Spot → Type 0
 Outdone k n l x = (length l ≡ n) × ((y : Spot) → In l y → Outranks k y x)
 
 -- the head of a chain of neighbours outranks what its last outranks
-last_over_all : (k : Kind) → Laws k → (l : List Spot) → Falls k l → (m : Spot) → LastOver k l m → (x : Spot) → In l x → Outranks k x m
+pub last_over_all : (k : Kind) → Laws k → (l : List Spot) → Falls k l → (m : Spot) → LastOver k l m → (x : Spot) → In l x → Outranks k x m
 last_over_all k L [] h m o x g = absurd g
 last_over_all k L (y ∷ []) h m o x (inl e) = subst (λ (z : Spot). Outranks k z m) (sym e) o
 last_over_all k L (y ∷ []) h m o x (inr g) = absurd g
@@ -33,7 +33,7 @@ head_over k L y (x ∷ l) h z (inl e) = subst (λ (v : Spot). Outranks k y v) (s
 head_over k L y (x ∷ l) h z (inr g) =
     trans k L y x z h.0 (head_over k L x l h.1 z g)
 
-falls_tail : (k : Kind) (y : Spot) (l : List Spot) → Falls k (y ∷ l) → Falls k l
+pub falls_tail : (k : Kind) (y : Spot) (l : List Spot) → Falls k (y ∷ l) → Falls k l
 falls_tail k y [] h = tt
 falls_tail k y (x ∷ l) h = h.1
 
@@ -48,7 +48,7 @@ pub record Top (k : Kind) (P : Spot → Type 0) (n : ℕ) (l : List Spot) : Type
   pub rest : (x : Spot) → P x → In l x ⊎ Outdone k n l x
   pub most : length l ≤ n
 
-top_from_best : (k : Kind) → Laws k → (P : Spot → Type 0) → (n : ℕ) (l : List Spot) → Best k P n l → Top k P n l
+pub top_from_best : (k : Kind) → Laws k → (P : Spot → Type 0) → (n : ℕ) (l : List Spot) → Best k P n l → Top k P n l
 top_from_best k L P n l h =
     record {
       listed = h.listed;
@@ -102,7 +102,7 @@ top_tail k P n x l h =
 top_head : (k : Kind) (P : Spot → Type 0) (n : ℕ) (x : Spot) (l : List Spot) → Top k P n (x ∷ l) → (z : Spot) → P z → (z ≡ x) ⊎ Outranks k x z
 top_head k P n x l h z p = elim (h.rest z p) [ inl (inl e) ↦ inl e | inl (inr g) ↦ inr (h.chain.0 z g) | inr g ↦ inr (g.1 x (inl refl)) ]
 
-one_top : (k : Kind) → Laws k → (P : Spot → Type 0) → (n : ℕ) (l r : List Spot) → Top k P n l → Top k P n r → l ≡ r
+pub one_top : (k : Kind) → Laws k → (P : Spot → Type 0) → (n : ℕ) (l r : List Spot) → Top k P n l → Top k P n r → l ≡ r
 one_top k L P n [] [] h g = refl
 one_top k L P n [] (y ∷ r) h g = elim (h.rest y (g.listed y (inl refl))) [ inl e ↦ absurd e | inr e ↦ absurd (omega (arith, g.most, e.0)) ]
 one_top k L P n (x ∷ l) [] h g = elim (g.rest x (h.listed x (inl refl))) [ inl e ↦ absurd e | inr e ↦ absurd (omega (arith, h.most, e.0)) ]

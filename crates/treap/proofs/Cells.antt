@@ -16,7 +16,7 @@ mark_sum_add f g (box i m a b c d) =
     omega (arith, mark_sum_add f g a, mark_sum_add f g b, mark_sum_add f g c, mark_sum_add f g d)
 
 -- a mark that a tree shows counts in a sum over its marks
-shown_le : (f : Spot → ℕ) (t : Tree) (x : Spot) → Shows t x → f x ≤ mark_sum f t
+pub shown_le : (f : Spot → ℕ) (t : Tree) (x : Spot) → Shows t x → f x ≤ mark_sum f t
 shown_le f none x h = absurd h
 shown_le f (box i m a b c d) x h = grind (arith, shown_le f a x, shown_le f b x, shown_le f c x, shown_le f d x)
 

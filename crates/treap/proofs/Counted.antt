@@ -201,7 +201,7 @@ best_seen k t w n = top_of k n (filter (sees w) (marks t))
 
 module _ (k : Kind) (L : Laws k) (s : Square) (t : Tree) (h : Ordered k s t) (ap' : Apart (numbers t)) (w : Window) (n : ℕ) (pos : 0 < n) where
   -- the best marks of a window, of which no two stand in one cell, are what a draw lists, and the wanted boxes what it opens
-  best_draws : (l : List Spot) → Best k (Seen t w) n l → Apart (map cell l) → Draws k s t w n l (tally k w n l s t)
+  pub best_draws : (l : List Spot) → Best k (Seen t w) n l → Apart (map cell l) → Draws k s t w n l (tally k w n l s t)
   best_draws l b c =
       record {
         best = b;

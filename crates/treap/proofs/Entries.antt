@@ -69,7 +69,7 @@ unnumbered_plant k (suc level) s (y ∷ l) =
     )
 
 -- what an ordered tree of a plan shows lies on the plan
-shown_on_plan : (k : Kind) (level : ℕ) (t : Tree)
+pub shown_on_plan : (k : Kind) (level : ℕ) (t : Tree)
     → Ordered k (plan_square level) t
     → (x : Spot)
     → Shows t x

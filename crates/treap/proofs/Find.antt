@@ -1,25 +1,36 @@
 -- Boxes by their numbers.
-use Rattle.std.proofs.Common.{◌≡◌, ℕ, zero, suc, Bool, true, false, cond, eqb, ◌⊎◌, ◌++◌, Some, sym, refl, ap, ◌∙◌, subst, inl, inr}
+use Rattle.std.proofs.Common.{◌≡◌, ℕ, zero, suc, Bool, true, false, cond, eqb, ◌⊎◌, ◌++◌, Some, None, sym, refl, ap, ◌∙◌, subst, inl, inr}
 use native.Mathlib.Decide.{ℕ_discrete}
-use Rattle.std.proofs.lemmas.Bool.{eqb-true, eq-eqb, ne_eqb}
+use Rattle.std.proofs.lemmas.Bool.{false≢true, eqb-true, eq-eqb, ne_eqb}
 use Rattle.grade.specs.Kind.{Kind}
 use Rattle.treap.specs.Spots.{Spot}
 use Rattle.treap.specs.Trees.{Quadrant, tl, tr, bl, br, Square, quadrant, Tree, none, box, pick, number, or, sub, find, numbers, Shows, Ordered, In, Apart}
 use Rattle.treap.specs.Draws.{Part, whole, deeper}
-use Rattle.treap.proofs.Lists.{in?, by_quadrant, in_four, from_four, each_apart, in_one, quarter}
+use Rattle.treap.proofs.Lists.{in?, in_append, by_quadrant, in_four, from_four, each_apart, in_one, quarter}
 use Rattle.treap.proofs.Needed.{part_lawful}
 use Rattle.treap.proofs.Parts.{Boxed, no_part, part_of_part, part_first, part_shown, part_numbers}
 
 pub box_none : {i : ℕ} {m : Spot} {a b c d : Tree} → box i m a b c d ≡ none → ⊥
 box_none e = cc
 
-or_some : (t u : Tree) (n : ℕ) → number t ≡ Some n → or t u ≡ t
+pub or_some : (t u : Tree) (n : ℕ) → number t ≡ Some n → or t u ≡ t
 or_some none u n e = cc
 or_some (box m s a b c d) u n e = refl
 
-or_right : (t : Tree) → or t none ≡ t
+pub or_right : (t : Tree) → or t none ≡ t
 or_right none = refl
 or_right (box m s a b c d) = refl
+
+pub number_none : (t : Tree) → number t ≡ None → t ≡ none
+number_none none e = refl
+number_none (box m s a b c d) e = cc
+
+pub no_number : (t : Tree) (n : ℕ) → t ≡ none → number t ≡ Some n → ⊥
+no_number t n e h = cc
+
+pub or_none : (t u : Tree) → or t u ≡ none → (t ≡ none) × (u ≡ none)
+or_none none u e = (refl, e)
+or_none (box j x a b c d) u e = absurd (box_none e)
 
 -- the first of four trees that has a box
 module _ (f : Quadrant → Tree) where
@@ -42,7 +53,7 @@ root_in none n e = cc
 root_in (box i m a b c d) n e = inl (cc)
 
 -- a number that no box has finds nothing
-find_miss : (n : ℕ) (t : Tree) → (In (numbers t) n → ⊥) → find n t ≡ none
+pub find_miss : (n : ℕ) (t : Tree) → (In (numbers t) n → ⊥) → find n t ≡ none
 find_miss n none h = refl
 find_miss n (box i m a b c d) h =
     let no : (q : Quadrant) → In (numbers (pick a b c d q)) n → ⊥ = λ q p. h (inr (in_four (quarter a b c d) q n p)) in
@@ -106,6 +117,37 @@ find_part s (box i m a b c d) n r u p h e =
 
 somewhere : Square
 somewhere = record { level = 0; top = 0; left = 0 }
+
+-- a number that a box has finds one
+hits : (n i : ℕ) (m : Spot) (a b c d : Tree) → (In (numbers a) n → find n a ≡ none → ⊥) → (In (numbers b) n → find n b ≡ none → ⊥) → (In (numbers c) n → find n c ≡ none → ⊥) → (In (numbers d) n → find n d ≡ none → ⊥) → In (numbers (box i m a b c d)) n → (v : Bool) → eqb n i ≡ v → cond v (box i m a b c d) (or (find n a) (or (find n b) (or (find n c) (find n d)))) ≡ none → ⊥
+hits n i m a b c d fa fb fc fd h true f e = box_none e
+hits n i m a b c d fa fb fc fd (inl x) false f e = false≢true (sym f ∙ eq-eqb n i x)
+hits n i m a b c d fa fb fc fd (inr x) false f e =
+    let x0 = or_none (find n a) _ e in
+    let x1 = or_none (find n b) _ x0.1 in
+    let x2 = or_none (find n c) _ x1.1 in
+    elim (in_append (numbers a) _ n x) [
+      | inl p ↦ fa p x0.0
+      | inr p ↦ elim (in_append (numbers b) _ n p) [
+        | inl q ↦ fb q x1.0
+        | inr q ↦ elim (in_append (numbers c) _ n q) [ inl r ↦ fc r x2.0 | inr r ↦ fd r x2.1 ]
+      ]
+    ]
+
+hit : (n : ℕ) (t : Tree) → In (numbers t) n → find n t ≡ none → ⊥
+hit n none h e = h
+hit n (box i m a b c d) h e = hits n i m a b c d (hit n a) (hit n b) (hit n c) (hit n d) h (eqb n i) refl e
+
+pub find_hit : (n : ℕ) (t : Tree) → In (numbers t) n → number (find n t) ≡ Some n
+find_hit n t h = go (found somewhere n t)
+  where
+    go : Found somewhere n t (find n t) → number (find n t) ≡ Some n
+    go (inl e) = absurd (hit n t h e)
+    go (inr x) = x.2
+
+pub find_root : (n : ℕ) (t : Tree) → number t ≡ Some n → find n t ≡ t
+find_root n none h = refl
+find_root n (box i m a b c d) h = let e : n ≡ i = cc in rw (eq-eqb n i e)
 
 -- the number of a box right below the box found finds it
 below_found : (s r : Square) (m q : ℕ) (t u : Tree) → Part s t r u → Apart (numbers t) → number (sub q u) ≡ Some m → find m t ≡ sub q u

@@ -12,7 +12,7 @@ either_map f g (inl x) = inl (f x)
 either_map f g (inr x) = inr (g x)
 
 -- the grade of a mark that outranks another stands above or level with its
-level_from_outranks : (k : Kind) → Laws k → (m n : Spot) → Outranks k m n → (k.above m.grade n.grade ≡ true)
+pub level_from_outranks : (k : Kind) → Laws k → (m n : Spot) → Outranks k m n → (k.above m.grade n.grade ≡ true)
 unfolding Outranks
 level_from_outranks k L m n (inl h) = h.0
 level_from_outranks k L m n (inr h) = subst (λ (x : ℕ). (k.above m.grade x ≡ true)) h.0 (elim (L.total m.grade m.grade) [ inl x ↦ x | inr x ↦ x ])

@@ -23,7 +23,7 @@ in_append [] r x h = inr h
 in_append (y ∷ l) r x h = grind (arith, in_append l r x)
 
 -- the list without one element
-without : {A : Type 0} (l : List A) (x : A) → In l x → List A
+pub without : {A : Type 0} (l : List A) (x : A) → In l x → List A
 without [] x h = []
 without (y ∷ l) x (inl e) = l
 without (y ∷ l) x (inr h) = y ∷ without l x h
@@ -58,17 +58,26 @@ apart_right : {A : Type 0} (l r : List A) → Apart (l ++ r) → Apart r
 apart_right [] r h = h
 apart_right (x ∷ l) r h = apart_right l r h.1
 
-apart_not_both : {A : Type 0} (l r : List A) → Apart (l ++ r) → (x : A) → In l x → In r x → ⊥
+pub apart_parts : {A : Type 0} (l r : List A) → Apart (l ++ r) → Apart l × Apart r
+apart_parts l r h = (apart_left l r h, apart_right l r h)
+
+pub apart_not_both : {A : Type 0} (l r : List A) → Apart (l ++ r) → (x : A) → In l x → In r x → ⊥
 apart_not_both [] r h x p q = p
 apart_not_both {A} (y ∷ l) r h x (inl e) q = h.0 (in_last l r y (subst (λ (z : A). In r z) e q))
 apart_not_both (y ∷ l) r h x (inr p) q = apart_not_both l r h.1 x p q
 
-apart_joined : {A : Type 0} (l r : List A) → Apart l → Apart r → ((x : A) → In l x → In r x → ⊥) → Apart (l ++ r)
+pub apart_joined : {A : Type 0} (l r : List A) → Apart l → Apart r → ((x : A) → In l x → In r x → ⊥) → Apart (l ++ r)
 apart_joined [] r hl hr no_both = hr
 apart_joined (x ∷ l) r hl hr no_both = (
   λ p. elim (in_append l r x p) [ inl q ↦ hl.0 q | inr q ↦ no_both x (inl refl) q ],
   apart_joined l r hl.1 hr (λ z p. no_both z (inr p)),
 )
+
+pub in_both : {A : Type 0} (l r v z : List A) → ((x : A) → In v x → In l x) → ((x : A) → In z x → In r x) → (x : A) → In (v ++ z) x → In (l ++ r) x
+in_both l r v z f g x h = elim (in_append v z x h) [ inl p ↦ in_first l r x (f x p) | inr p ↦ in_last l r x (g x p) ]
+
+pub apart_under : {A : Type 0} (l r v z : List A) → Apart (l ++ r) → Apart v → Apart z → ((x : A) → In v x → In l x) → ((x : A) → In z x → In r x) → Apart (v ++ z)
+apart_under l r v z h hv hz f g = apart_joined v z hv hz (λ x p q. apart_not_both l r h x (f x p) (g x q))
 
 -- each element stands so to all that come after it
 abbrev pub Pairs : {A : Type 0} → (A → A → Type 0) → List A → Type 0

@@ -24,6 +24,34 @@ abbrev pub Numbered : List ℕ → Tree → Type 0
 Numbered S none = ⊥
 Numbered S (box i m a b c d) = In S i
 
+-- each wanted box is of each set that justifies the list
+abbrev pub WantedIsNeeded : Type 0
+WantedIsNeeded =
+    (k : Kind)
+    → Laws k
+    → (s : Square) (t : Tree)
+    → Ordered k s t
+    → (w : Window) (n : ℕ) (l : List Spot)
+    → (S : List ℕ)
+    → Justifies k s t w n l S
+    → (r : Square) (u : Tree)
+    → Part s t r u
+    → Wanted k w n l r u
+    → Numbered S u
+
+-- and the wanted boxes are enough
+abbrev pub WantedIsEnough : Type 0
+WantedIsEnough =
+    (k : Kind)
+    → Laws k
+    → (s : Square) (t : Tree)
+    → (w : Window) (n : ℕ) (l : List Spot)
+    → 0 < n
+    → length l ≤ n
+    → (S : List ℕ)
+    → ((r : Square) (u : Tree) → Part s t r u → Wanted k w n l r u → Numbered S u)
+    → Justifies k s t w n l S
+
 -- the last listed does not outrank what reaches it
 pub not_both : (k : Kind) → Laws k → (l : List Spot) → (m : Spot) → Reaches k l m → LastOver k l m → ⊥
 not_both k L [] m h g = h
@@ -31,13 +59,13 @@ not_both k L (x ∷ []) m (inl e) g = irrefl_eq k x m (sym e) g
 not_both k L (x ∷ []) m (inr h) g = asym k L m x h g
 not_both k L (x ∷ y ∷ l) m h g = not_both k L (y ∷ l) m h g
 
-either : (k : Kind) → Laws k → (l : List Spot) → 0 < length l → (m : Spot) → Reaches k l m ⊎ LastOver k l m
+pub either : (k : Kind) → Laws k → (l : List Spot) → 0 < length l → (m : Spot) → Reaches k l m ⊎ LastOver k l m
 either k L [] p m = absurd (omega arith)
 either k L (x ∷ []) p m = elim (tri k L m x) [ inl h ↦ inl (inr h) | inr (inl h) ↦ inl (inl h) | inr (inr h) ↦ inr h ]
 either k L (x ∷ y ∷ l) p m = either k L (y ∷ l) (omega arith) m
 
 -- what outranks a mark that reaches the last reaches it
-reaches_up : (k : Kind) → Laws k → (l : List Spot) → (m x : Spot) → Outranks k m x → Reaches k l x → Reaches k l m
+pub reaches_up : (k : Kind) → Laws k → (l : List Spot) → (m x : Spot) → Outranks k m x → Reaches k l x → Reaches k l m
 reaches_up k L [] m x o h = h
 reaches_up k L (y ∷ []) m x o (inl e) = inr (subst (λ (z : Spot). Outranks k m z) e o)
 reaches_up k L (y ∷ []) m x o (inr h) = inr (trans k L m x y o h)
@@ -61,7 +89,7 @@ module _ (k : Kind) (L : Laws k) (w : Window) (n : ℕ) (l : List Spot) where
       ]
 
   -- the parent of a wanted box is wanted
-  wanted_up : (r : Square) (i : ℕ) (m : Spot) (a b c d : Tree) (q : Quadrant) (u : Tree) → Hangs k r m u → Wanted k w n l (quadrant q r) u → Wanted k w n l r (box i m a b c d)
+  pub wanted_up : (r : Square) (i : ℕ) (m : Spot) (a b c d : Tree) (q : Quadrant) (u : Tree) → Hangs k r m u → Wanted k w n l (quadrant q r) u → Wanted k w n l r (box i m a b c d)
   wanted_up r i m a b c d q none g v = absurd v
   wanted_up r i m a b c d q (box j x a' b' c' d') g v =
       (touches_up r q w g.0 v.0, elim v.1 [ inl lt ↦ inl lt | inr reach ↦ inr (reaches_up k L l m x g.1 reach) ])
@@ -80,30 +108,10 @@ module _ (k : Kind) (L : Laws k) (w : Window) (n : ℕ) (l : List Spot) where
         | no ge ↦ (ge, elim (either k L l (omega arith) m) [ inl reach ↦ absurd (out (g (touch, inr reach))) | inr o ↦ o ])
       ]
 
--- each wanted box is of each set that justifies the list
-pub wanted_is_needed : (k : Kind)
-    → Laws k
-    → (s : Square) (t : Tree)
-    → Ordered k s t
-    → (w : Window) (n : ℕ) (l : List Spot)
-    → (S : List ℕ)
-    → Justifies k s t w n l S
-    → (r : Square) (u : Tree)
-    → Part s t r u
-    → Wanted k w n l r u
-    → Numbered S u
+pub wanted_is_needed : WantedIsNeeded
 wanted_is_needed k L s t h w n l S j r u p v = needed k L w n l p h S j v
 
--- and the wanted boxes are enough
-pub wanted_is_enough : (k : Kind)
-    → Laws k
-    → (s : Square) (t : Tree)
-    → (w : Window) (n : ℕ) (l : List Spot)
-    → 0 < n
-    → length l ≤ n
-    → (S : List ℕ)
-    → ((r : Square) (u : Tree) → Part s t r u → Wanted k w n l r u → Numbered S u)
-    → Justifies k s t w n l S
+pub wanted_is_enough : WantedIsEnough
 wanted_is_enough k L s t w n l pos le S g =
     record {
       root = settle k L w n l pos le S s t (g s t whole);

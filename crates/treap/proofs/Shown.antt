@@ -57,7 +57,7 @@ shown_holds k s (box i m a b c d) h x g =
     ]
 
 -- a mark that a tree hangs under outranks all that the tree shows
-over : (k : Kind) → Laws k → (s r : Square) (m : Spot) (u : Tree) → Ordered k r u → Hangs k s m u → (x : Spot) → Shows u x → Outranks k m x
+pub over : (k : Kind) → Laws k → (s r : Square) (m : Spot) (u : Tree) → Ordered k r u → Hangs k s m u → (x : Spot) → Shows u x → Outranks k m x
 over k L s r m none h g x e = absurd e
 over k L s r m (box i y a b c d) h g x e =
     let each : (q : Quadrant) → Shows (pick a b c d q) x → Outranks k y x =
@@ -70,7 +70,7 @@ root_over k L s i m a b c d h q x g = over k L s (quadrant q s) m (pick a b c d 
 
 -- two lawful trees: what the first shows the second does
 module _ (k : Kind) (L : Laws k) (s : Square) (i j : ℕ) (m n : Spot) (a b c d a' b' c' d' : Tree) (ht : Ordered k s (box i m a b c d)) (hu : Ordered k s (box j n a' b' c' d')) where
-  same_root : Shows (box j n a' b' c' d') m → Shows (box i m a b c d) n → m ≡ n
+  pub same_root : Shows (box j n a' b' c' d') m → Shows (box i m a b c d) n → m ≡ n
   same_root p q =
       elim (split a' b' c' d' n m j p) [
         | inl e ↦ e
@@ -80,7 +80,7 @@ module _ (k : Kind) (L : Laws k) (s : Square) (i j : ℕ) (m n : Spot) (a b c d 
         ]
       ]
 
-  narrow : m ≡ n → ((x : Spot) → Shows (box i m a b c d) x → Shows (box j n a' b' c' d') x) → (q : Quadrant) (x : Spot) → Shows (pick a b c d q) x → Shows (pick a' b' c' d' q) x
+  pub narrow : m ≡ n → ((x : Spot) → Shows (box i m a b c d) x → Shows (box j n a' b' c' d') x) → (q : Quadrant) (x : Spot) → Shows (pick a b c d q) x → Shows (pick a' b' c' d' q) x
   narrow e f q x g =
       elim (split a' b' c' d' n x j (f x (below a b c d i m x q g))) [
         | inl p ↦ absurd (irrefl_eq k m x (e ∙ sym p) (root_over k L s i m a b c d ht q x g))

@@ -28,13 +28,19 @@ moved_none : (t : Tree) → moved 0 0 t ≡ t
 moved_none none = refl
 moved_none (box i m a b c d) = grind (arith, moved_none a, moved_none b, moved_none c, moved_none d)
 
+pub moved_square_none : (s : Square) → moved_square 0 0 s ≡ s
+moved_square_none s = grind arith
+
 shifted_none : (m : Meaning) → shifted 0 0 m ≡ m
 shifted_none m = grind (arith, moved_none m.tree)
 
 -- two shifts add up
 
+pub add_on : (a b c : ℕ) → a + b + c ≡ a + (b + c)
+add_on a b c = omega arith
+
 module _ (r c r' c' : ℕ) where
-  moved_square_again : (s : Square) → moved_square r' c' (moved_square r c s) ≡ moved_square (r + r') (c + c') s
+  pub moved_square_again : (s : Square) → moved_square r' c' (moved_square r c s) ≡ moved_square (r + r') (c + c') s
   moved_square_again s = grind arith
 
   moved_again : (t : Tree) → moved r' c' (moved r c t) ≡ moved (r + r') (c + c') t

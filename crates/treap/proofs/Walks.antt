@@ -8,7 +8,7 @@ use Rattle.treap.specs.Draws.{Window, Sees, Touches, Seen, Falls, Part, whole, d
 use Rattle.treap.specs.Searches.{Node, tree, child, Share, Spread}
 use Rattle.treap.proofs.Ranks.{irrefl_eq, trans, tri}
 use Rattle.treap.proofs.Shown.{split, hangs, lawful_quadrant, within_quadrant, root_over}
-use Rattle.treap.proofs.Lists.{Pairs, in_first, in_last, in_append, in_map, from_map, apart_map, apart_shorter}
+use Rattle.treap.proofs.Lists.{Pairs, in_first, in_last, in_append, in_four, quarter, in_map, from_map, apart_map, apart_shorter}
 use Rattle.treap.proofs.Bests.{Chain, Outdone, chain_from_falls, last_over_from_all, best_from_top}
 use Rattle.treap.proofs.Counted.{cells_apart}
 use lib.ListN.{length-map}
@@ -16,6 +16,10 @@ use Rattle.treap.proofs.Needed.{Reaches, Wanted, Numbered, not_both, part_lawful
 use Rattle.treap.proofs.Find.{find_part}
 use Rattle.treap.proofs.Parts.{Boxed, part_shown, part_numbers, shown_part, part_first}
 pub use Rattle.treap.proofs.Parts.{no_part}
+
+-- the numbers of a quadrant are among those of all four
+pub numbers_quadrant : (i : ℕ) (m : Spot) (a b c d : Tree) (q : Quadrant) (n : ℕ) → In (numbers (pick a b c d q)) n → In (numbers a ++ (numbers b ++ (numbers c ++ numbers d))) n
+numbers_quadrant i m a b c d q n p = in_four (quarter a b c d) q n p
 
 -- the boxes of the list fell one after the other, the last one first
 abbrev pub Fell : Kind → List Node → Type 0
@@ -145,7 +149,7 @@ reaches_push k [] m x h = h
 reaches_push k (y ∷ []) m x h = h
 reaches_push k (y ∷ z ∷ l) m x h = reaches_push k (z ∷ l) m x h
 
-spread_joined : (l r : List Node) → Spread l → Spread r → ((e f : Node) → In l e → In r f → Share e.square f.square → ⊥) → Spread (l ++ r)
+pub spread_joined : (l r : List Node) → Spread l → Spread r → ((e f : Node) → In l e → In r f → Share e.square f.square → ⊥) → Spread (l ++ r)
 spread_joined [] r hl hr f = hr
 spread_joined (x ∷ l) r hl hr f = (
   λ g p. elim (in_append l r g p) [ inl q ↦ hl.0 g q | inr q ↦ f x g (inl refl) q ],
@@ -169,10 +173,7 @@ search_starts k e h w n pos touch = (
 )
 
 -- the next box is opened
-module _ (k : Kind) (L : Laws k) (s : Square) (t : Tree) (h : Ordered k s t) (w : Window) (n : ℕ) (done wait : List Node) (l : List Spot) (f : Node) (kids : List Node) (st : Search k s t w n done (f ∷ wait) l) (few : length l < n) (best : (e : Node) → In wait e → Outranks k e.mark f.mark → ⊥) (K : Kids w f kids) where
-  abbrev walk : Walk k s t w done (f ∷ wait)
-  walk = st.0
-
+module _ (k : Kind) (L : Laws k) (s : Square) (t : Tree) (h : Ordered k s t) (w : Window) (done wait : List Node) (f : Node) (kids : List Node) (walk : Walk k s t w done (f ∷ wait)) (best : (e : Node) → In wait e → Outranks k e.mark f.mark → ⊥) (K : Kids w f kids) where
   part_f : Part s t f.square (tree f)
   part_f = (walk.wait_parts f (inl refl)).0
 
@@ -226,7 +227,7 @@ module _ (k : Kind) (L : Laws k) (s : Square) (t : Tree) (h : Ordered k s t) (w 
         | inr (g, inr x, z) ↦ inr (g, in_last kids wait g x, z)
       ]
 
-  walk_on : Walk k s t w (f ∷ done) (kids ++ wait)
+  pub walk_on : Walk k s t w (f ∷ done) (kids ++ wait)
   walk_on =
       record {
         done_parts = λ e p. elim p [
@@ -254,9 +255,17 @@ module _ (k : Kind) (L : Laws k) (s : Square) (t : Tree) (h : Ordered k s t) (w 
         cover = step_cover;
       }
 
+-- and its mark is listed if the window sees it
+module _ (k : Kind) (L : Laws k) (s : Square) (t : Tree) (h : Ordered k s t) (w : Window) (n : ℕ) (done wait : List Node) (l : List Spot) (f : Node) (kids : List Node) (st : Search k s t w n done (f ∷ wait) l) (few : length l < n) (best : (e : Node) → In wait e → Outranks k e.mark f.mark → ⊥) (K : Kids w f kids) where
+  abbrev walk : Walk k s t w done (f ∷ wait)
+  walk = st.0
+
+  walked : Walk k s t w (f ∷ done) (kids ++ wait)
+  walked = walk_on k L s t h w done wait f kids walk best K
+
   lists_on : Sees w f.mark.row f.mark.col → Search k s t w n (f ∷ done) (kids ++ wait) (l ++ (f.mark ∷ []))
   lists_on seen = (
-    walk_on,
+    walked,
     record {
       listed = λ x p. elim (in_append l (f.mark ∷ []) x p) [
         | inl y ↦ let r = st.1.listed x y in (r.0, inr r.1, r.2, r.3)
@@ -277,7 +286,7 @@ module _ (k : Kind) (L : Laws k) (s : Square) (t : Tree) (h : Ordered k s t) (w 
 
   passes_on : (Sees w f.mark.row f.mark.col → ⊥) → Search k s t w n (f ∷ done) (kids ++ wait) l
   passes_on unseen = (
-    walk_on,
+    walked,
     record {
       listed = λ x p. let r = st.1.listed x p in (r.0, inr r.1, r.2, r.3);
       all = λ e p v. elim p [ inl x ↦ absurd (unseen (subst (λ (y : Node). Sees w y.mark.row y.mark.col) x v)) | inr x ↦ st.1.all e x v ];
@@ -294,7 +303,7 @@ pub search_passes : SearchPasses
 search_passes = passes_on
 
 -- two boxes with one number have one mark
-one_number : (s : Square) (t : Tree) → Apart (numbers t) → (e f : Node) → Part s t e.square (tree e) → Part s t f.square (tree f) → e.number ≡ f.number → e.mark ≡ f.mark
+pub one_number : (s : Square) (t : Tree) → Apart (numbers t) → (e f : Node) → Part s t e.square (tree e) → Part s t f.square (tree f) → e.number ≡ f.number → e.mark ≡ f.mark
 one_number s t h e f p q x =
     cc (find_part s t e.number e.square (tree e) p h refl, find_part s t e.number f.square (tree f) q h (ap Some (sym x)))
 
