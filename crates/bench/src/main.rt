@@ -115,23 +115,7 @@ fn main(rt: HostRuntime) -> io::Result<()> {
     let mut places = [Place::vacant(NONE); PLACES];
     let mut plan = Plan::open(LEVEL, &mut places);
     fill(&mut plan, usize::from(marks));
-    let mut queue = [Entry::vacant(NONE); PLACES];
-    let none = Mark {
-        row: 0,
-        col: 0,
-        grade: NONE,
-    };
-    let mut bench = Bench {
-        plan: &plan,
-        queue: &mut queue,
-        list: [none; LONGEST],
-    };
-    for side in SIDES {
-        for k in COUNTS {
-            bench.report(&rt, Task { side, k }, timed)?;
-        }
-    }
-    Ok(())
+    report_all(&rt, &plan, timed)
 }
 
 fn usage(rt: &HostRuntime) -> io::Result<()> {
@@ -156,6 +140,28 @@ fn fill(plan: &mut Plan<Points>, marks: usize) {
         };
         let _ = plan.enter(Mark { row, col, grade });
     }
+}
+
+// Draws for each side and each number of marks, and prints what the draws come to. The queue is a local of its own function: beside
+// the places it would be filled twice.
+fn report_all(rt: &HostRuntime, plan: &Plan<Points>, timed: bool) -> io::Result<()> {
+    let mut queue = [Entry::vacant(NONE); PLACES];
+    let none = Mark {
+        row: 0,
+        col: 0,
+        grade: NONE,
+    };
+    let mut bench = Bench {
+        plan,
+        queue: &mut queue,
+        list: [none; LONGEST],
+    };
+    for side in SIDES {
+        for k in COUNTS {
+            bench.report(rt, Task { side, k }, timed)?;
+        }
+    }
+    Ok(())
 }
 
 // A plan, and the memory in which windows of it are drawn.
