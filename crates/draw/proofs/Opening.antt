@@ -56,8 +56,11 @@ few_less f tr = omega arith
 few_less f bl = omega arith
 few_less f br = omega arith
 
+abbrev all : List boxtree.Quadrant
+all = TopLeft ∷ (TopRight ∷ (BottomLeft ∷ (BottomRight ∷ [])))
+
 -- the quadrants stand in the order of their indices
-pub index_at : (k : ℕ) (d : boxtree.Quadrant) → k < 4 → index (quadrant_of (get_or (TopLeft ∷ (TopRight ∷ (BottomLeft ∷ (BottomRight ∷ [])))) k d)) ≡ k
+pub index_at : (k : ℕ) (d : boxtree.Quadrant) → k < 4 → index (quadrant_of (get_or all k d)) ≡ k
 index_at zero d h = refl
 index_at (suc zero) d h = refl
 index_at (suc (suc zero)) d h = refl
@@ -65,11 +68,10 @@ index_at (suc (suc (suc zero))) d h = refl
 index_at (suc (suc (suc (suc k)))) d h = absurd (omega arith)
 
 -- and so do the first n of them
-pub index_within : (n k : ℕ) (d : boxtree.Quadrant) → n ≤ 4 → k < length (take n (TopLeft ∷ (TopRight ∷ (BottomLeft ∷ (BottomRight ∷ []))))) → index (quadrant_of (get_or (take n (TopLeft ∷ (TopRight ∷ (BottomLeft ∷ (BottomRight ∷ []))))) k d)) ≡ k
+pub index_within : (n k : ℕ) (d : boxtree.Quadrant) → n ≤ 4 → k < length (take n all) → index (quadrant_of (get_or (take n all) k d)) ≡ k
 index_within n k d le h =
-    let e = length-take-le n (TopLeft ∷ (TopRight ∷ (BottomLeft ∷ (BottomRight ∷ [])))) le in
-    ap (λ (q : boxtree.Quadrant). index (quadrant_of q)) (get_or-take n (TopLeft ∷ (TopRight ∷ (BottomLeft ∷ (BottomRight ∷ [])))) k d (omega arith))
-    ∙ index_at k d (omega arith)
+    let e = length-take-le n all le in
+    ap (λ (q : boxtree.Quadrant). index (quadrant_of q)) (get_or-take n all k d (omega arith)) ∙ index_at k d (omega arith)
 
 -- the boxes right below f that touch the window have come in
 pub record Opened (w : Window) (f : Node) (before after : List Node) : Type 0 where

@@ -6,7 +6,7 @@ use Rattle.grade.specs.Kind.{Kind}
 use Rattle.treap.specs.Spots.{Spot}
 use Rattle.treap.specs.Trees.{Quadrant, tl, tr, bl, br, Square, quadrant, Tree, none, box, pick, number, or, sub, find, numbers, Shows, Ordered, In, Apart}
 use Rattle.treap.specs.Draws.{Part, whole, deeper}
-use Rattle.treap.proofs.Lists.{in?, in_append, by_quadrant, in_four, from_four, each_apart, in_one, quarter}
+use Rattle.treap.proofs.Lists.{in?, by_quadrant, in_four, from_four, each_apart, in_one, quarter}
 use Rattle.treap.proofs.Needed.{part_lawful}
 use Rattle.treap.proofs.Parts.{Boxed, no_part, part_of_part, part_first, part_shown, part_numbers}
 
@@ -118,25 +118,28 @@ find_part s (box i m a b c d) n r u p h e =
 somewhere : Square
 somewhere = record { level = 0; top = 0; left = 0 }
 
--- a number that a box has finds one
-hits : (n i : ℕ) (m : Spot) (a b c d : Tree) → (In (numbers a) n → find n a ≡ none → ⊥) → (In (numbers b) n → find n b ≡ none → ⊥) → (In (numbers c) n → find n c ≡ none → ⊥) → (In (numbers d) n → find n d ≡ none → ⊥) → In (numbers (box i m a b c d)) n → (v : Bool) → eqb n i ≡ v → cond v (box i m a b c d) (or (find n a) (or (find n b) (or (find n c) (find n d)))) ≡ none → ⊥
-hits n i m a b c d fa fb fc fd h true f e = box_none e
-hits n i m a b c d fa fb fc fd (inl x) false f e = false≢true (sym f ∙ eq-eqb n i x)
-hits n i m a b c d fa fb fc fd (inr x) false f e =
-    let x0 = or_none (find n a) _ e in
-    let x1 = or_none (find n b) _ x0.1 in
-    let x2 = or_none (find n c) _ x1.1 in
-    elim (in_append (numbers a) _ n x) [
-      | inl p ↦ fa p x0.0
-      | inr p ↦ elim (in_append (numbers b) _ n p) [
-        | inl q ↦ fb q x1.0
-        | inr q ↦ elim (in_append (numbers c) _ n q) [ inl r ↦ fc r x2.0 | inr r ↦ fd r x2.1 ]
-      ]
-    ]
+-- where the first of four trees that has a box is none, each is none
+chosen_none : (f : Quadrant → Tree) → chosen f ≡ none → (q : Quadrant) → f q ≡ none
+chosen_none f e tl = (or_none (f tl) _ e).0
+chosen_none f e tr = (or_none (f tr) _ (or_none (f tl) _ e).1).0
+chosen_none f e bl = (or_none (f bl) _ (or_none (f tr) _ (or_none (f tl) _ e).1).1).0
+chosen_none f e br = (or_none (f bl) _ (or_none (f tr) _ (or_none (f tl) _ e).1).1).1
 
-hit : (n : ℕ) (t : Tree) → In (numbers t) n → find n t ≡ none → ⊥
+-- a number that a box has finds one
+abbrev Hits : ℕ → Tree → Type 0
+Hits n t = In (numbers t) n → find n t ≡ none → ⊥
+
+hits_box : (n i : ℕ) (m : Spot) (a b c d : Tree) → ((q : Quadrant) → Hits n (pick a b c d q)) → In (numbers (box i m a b c d)) n → (v : Bool) → eqb n i ≡ v → cond v (box i m a b c d) (chosen (λ q. find n (pick a b c d q))) ≡ none → ⊥
+hits_box n i m a b c d each h true f e = box_none e
+hits_box n i m a b c d each (inl x) false f e = false≢true (sym f ∙ eq-eqb n i x)
+hits_box n i m a b c d each (inr x) false f e =
+    let r = from_four (quarter a b c d) n x in
+    each r.0 r.1 (chosen_none (λ q. find n (pick a b c d q)) e r.0)
+
+hit : (n : ℕ) (t : Tree) → Hits n t
 hit n none h e = h
-hit n (box i m a b c d) h e = hits n i m a b c d (hit n a) (hit n b) (hit n c) (hit n d) h (eqb n i) refl e
+hit n (box i m a b c d) h e =
+    hits_box n i m a b c d (by_quadrant (λ q. Hits n (pick a b c d q)) (hit n a) (hit n b) (hit n c) (hit n d)) h (eqb n i) refl e
 
 pub find_hit : (n : ℕ) (t : Tree) → In (numbers t) n → number (find n t) ≡ Some n
 find_hit n t h = go (found somewhere n t)
